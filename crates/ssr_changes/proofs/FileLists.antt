@@ -10,6 +10,7 @@ use Rattle.ssr_base_trees.specs.Changes.{Change, FitsText, same}
 use Rattle.ssr_base_trees.specs.Origins.{Span}
 use Rattle.ssr_base_trees.specs.Workspace.{Workspace, tree_of}
 use Rattle.ssr_base_trees.proofs.Shared.{tree_of_file}
+use Rattle.ssr_set_aside.specs.Parts.{no_parts}
 use Rattle.ssr_set_aside.specs.SetAside.{IsSetAside, KeepsLength, none}
 use Rattle.ssr_changes.specs.Files.{File, AreSearched, IsSearched, as_it_is, as_they_are}
 
@@ -58,6 +59,7 @@ it_is_made names n tree = record {
   replaced = same 0 (source_of tree);
   covered = tt;
   blanks = none;
+  parts = no_parts;
 }
 
 made_from : (names : List (List ℕ)) (n : ℕ) (trees : List Syntax) → AreSearched trees (map (as_it_is names) (enumerate_from n trees))

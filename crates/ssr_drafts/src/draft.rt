@@ -1,10 +1,11 @@
 //! A text that isn't read, by its tokens, and the forms that they are part of.
 
-use crate::finding::Parts;
+use crate::finding::{Part, Parts};
 use crate::form::{Form, Side, filled};
+use crate::units::{Unit, UnitKind};
 use ssr_syntax_kinds::SyntaxKind::*;
 use ssr_syntax_kinds::{SyntaxKind, TextRange};
-use ssr_syntax_lex::{LexError, RawToken, lex};
+use ssr_syntax_lex::RawToken;
 use std::alloc::{AllocError, Global};
 
 /// Tokens of a draft that follow each other: from the place `from` up to before `to`.
@@ -19,25 +20,15 @@ pub(crate) struct Span {
 pub(crate) struct Draft<'a> {
     text: &'a str,
     pub(crate) kinds: Vec<SyntaxKind>,
-    tokens: Vec<RawToken>,
+    tokens: &'a [RawToken],
     /// The place of the bracket that pairs with this one; of any other token its own place.
     partners: Vec<usize>,
     forms: Vec<Form>,
+    /// Of a token with which a unit begins that isn't read, the kind of that unit and the place behind it. A larger unit that begins
+    /// before it may have it.
+    unread: Vec<Option<Unit>>,
     /// How often a token has come to be part of another form.
     treated: usize,
-}
-
-/// The tokens of a text without white space and comments; none where it can't be cut into tokens.
-fn solid_tokens(alloc: Global, text: &str) -> Result<Vec<RawToken>, AllocError> {
-    match lex(alloc, text) {
-        Ok(raw) => raw
-            .iter()
-            .copied()
-            .filter(|token| !token.kind.is_trivia())
-            .collect(alloc),
-        Err(LexError::Memory) => Err(AllocError),
-        Err(_) => Ok(Vec::new(alloc)),
-    }
 }
 
 /// The bracket that closes what this one opens.
@@ -82,20 +73,25 @@ fn paired(alloc: Global, kinds: &[SyntaxKind]) -> Result<Option<Vec<usize>>, All
 }
 
 impl<'a> Draft<'a> {
-    /// The draft of a text of which all stays, if it can be cut into tokens and its brackets pair.
-    pub(crate) fn new(alloc: Global, text: &'a str) -> Result<Option<Draft<'a>>, AllocError> {
-        let tokens = solid_tokens(alloc, text)?;
+    /// The draft of a text of which all stays, by its tokens without white space and comments, if its brackets pair.
+    pub(crate) fn new(
+        alloc: Global,
+        text: &'a str,
+        tokens: &'a [RawToken],
+    ) -> Result<Option<Draft<'a>>, AllocError> {
         let kinds: Vec<SyntaxKind> = tokens.iter().map(|token| token.kind).collect(alloc)?;
         let Some(partners) = paired(alloc, &kinds)? else {
             return Ok(None);
         };
         let forms = vec![in alloc; Form::Kept; tokens.len()]?;
+        let unread = vec![in alloc; None; tokens.len()]?;
         Ok(Some(Draft {
             text,
             kinds,
             tokens,
             partners,
             forms,
+            unread,
             treated: 0,
         }))
     }
@@ -153,7 +149,7 @@ impl<'a> Draft<'a> {
     /// Says which form a token is part of. What isn't searched stays so.
     pub(crate) fn treat(&mut self, place: usize, form: Form) {
         if let Some(old) = self.forms.get_mut(place) {
-            if *old != form && !old.is_unsearched() {
+            if *old != form && *old != Form::Unread {
                 *old = form;
                 self.treated = self.treated.saturating_add(1);
             }
@@ -173,6 +169,15 @@ impl<'a> Draft<'a> {
     pub(crate) fn treat_span(&mut self, span: Span, form: Form) {
         for place in span.from..span.to {
             self.treat(place, form);
+        }
+    }
+
+    /// Sets aside a unit that isn't read.
+    pub(crate) fn set_aside(&mut self, unit: Span, kind: UnitKind) {
+        self.treat_span(unit, Form::Unread);
+        let Span { from, to } = unit;
+        if let Some(old) = self.unread.get_mut(from) {
+            *old = Some(Unit { kind, from, to });
         }
     }
 
@@ -196,7 +201,7 @@ impl<'a> Draft<'a> {
         Ok(())
     }
 
-    /// The parts that are set aside, in order: tokens, and of what isn't searched all tokens that follow each other.
+    /// The parts that are set aside, in order: tokens, and units that aren't read, together where they follow each other.
     pub(crate) fn parts(&self, alloc: Global) -> Result<Parts, AllocError> {
         let nexts = self.next_kept(alloc)?;
         let mut parts = Parts::new(alloc);
@@ -208,30 +213,32 @@ impl<'a> Draft<'a> {
             if place < behind {
                 continue;
             }
-            if *form == Form::Kept {
-                continue;
-            }
-            if form.is_unsearched() {
-                behind = self.behind_unsearched(place);
-                self.push_unsearched(alloc, place, behind, &mut parts)?;
-            } else {
-                let new = filled(alloc, form.word(), self.token_text(place))?;
-                parts.changes.push((token.range, new))?;
-                parts.reaches.push(reach(form.side(), token.range, *next))?;
+            match *form {
+                Form::Kept => {}
+                Form::Unread => {
+                    behind = self.behind_unread(place);
+                    self.push_unread(alloc, place, behind, &mut parts)?;
+                }
+                form => {
+                    let new = filled(alloc, form.word(), self.token_text(place))?;
+                    parts.changes.push((token.range, new))?;
+                    parts.parts.push(Part::Token(place, form))?;
+                    parts.reaches.push(reach(form.side(), token.range, *next))?;
+                }
             }
         }
         Ok(parts)
     }
 
-    /// The place behind the tokens from a place on that aren't searched.
-    pub(crate) fn behind_unsearched(&self, place: usize) -> usize {
+    /// The place behind the tokens from a place on that aren't read.
+    pub(crate) fn behind_unread(&self, place: usize) -> usize {
         let rest = self.forms.get(place..).unwrap_or(&[]);
-        let count = rest.iter().position(|form| !form.is_unsearched());
+        let count = rest.iter().position(|form| *form != Form::Unread);
         place.saturating_add(count.unwrap_or(rest.len()))
     }
 
-    /// Adds a part of all bytes from the token at a place up to before another one, which aren't searched.
-    fn push_unsearched(
+    /// Adds a part of all bytes from the token at a place up to before another one, which aren't read.
+    fn push_unread(
         &self,
         alloc: Global,
         place: usize,
@@ -244,10 +251,34 @@ impl<'a> Draft<'a> {
             let range = TextRange::new(first.range.start, end);
             let new = filled(alloc, "", self.text_between(range.start, range.end))?;
             parts.changes.push((range, new))?;
+            parts
+                .parts
+                .push(Part::Units(self.units_between(alloc, place, behind)?))?;
             parts.reaches.push(range)?;
             parts.unsearched.push(range)?;
         }
         Ok(())
+    }
+
+    /// The units that aren't read from a place up to another one, in order: the largest ones.
+    fn units_between(
+        &self,
+        alloc: Global,
+        from: usize,
+        to: usize,
+    ) -> Result<Vec<Unit>, AllocError> {
+        let mut units = Vec::new(alloc);
+        let mut next = from;
+        for place in from..to {
+            if place < next {
+                continue;
+            }
+            if let Some(Some(unit)) = self.unread.get(place) {
+                units.push(*unit)?;
+                next = unit.to;
+            }
+        }
+        Ok(units)
     }
 
     /// For each token the byte behind the first one of the next token that stays; 0 where none does.

@@ -1,8 +1,10 @@
 //! Finds the parts of a text that are set aside.
 
 use crate::draft::Draft;
-use crate::form::filled;
+use crate::form::{Form, filled};
+use crate::units::Unit;
 use ssr_syntax_kinds::TextRange;
+use ssr_syntax_lex::RawToken;
 use std::alloc::{AllocError, Global};
 
 /// How much of an item that isn't read is set aside.
@@ -14,11 +16,24 @@ pub enum Care {
     Coarse,
 }
 
+/// What a change sets aside.
+#[derive(Debug, Drop)]
+pub enum Part {
+    /// The bytes in front of all tokens.
+    Front,
+    /// A token, by its place among those that are neither white space nor comments, and the form that it is part of.
+    Token(usize, Form),
+    /// Units that aren't read and follow each other.
+    Units(Vec<Unit>),
+}
+
 /// The parts of a text that are set aside to read it.
 #[derive(Debug, Drop)]
 pub struct Parts {
     /// The changes that set them aside: in order, sharing no byte, and each with a text of as many bytes as it replaces.
     pub changes: Vec<(TextRange, String)>,
+    /// What each change sets aside.
+    pub parts: Vec<Part>,
     /// Of each change the bytes that no match may touch: its own, and where the part belongs to what begins behind it, those up to
     /// behind the first byte of that.
     pub reaches: Vec<TextRange>,
@@ -31,19 +46,23 @@ impl Parts {
     pub(crate) fn new(alloc: Global) -> Parts {
         Parts {
             changes: Vec::new(alloc),
+            parts: Vec::new(alloc),
             reaches: Vec::new(alloc),
             unsearched: Vec::new(alloc),
         }
     }
 }
 
-/// The parts of a text to set aside, as far as the tokens tell that. There are none where it can't be cut into tokens, where its
-/// brackets don't pair, or where none of its items would be left.
-pub fn found(alloc: Global, text: &str, care: Care) -> Result<Option<Parts>, AllocError> {
-    let front = text.get(..front_len(text)).unwrap_or("");
-    let mut lexed = filled(alloc, "", front)?;
-    lexed.push_str(text.get(front.len()..).unwrap_or(""))?;
-    let Some(mut draft) = Draft::new(alloc, lexed.as_str())? else {
+/// The parts of a text to set aside, as far as the tokens tell that, which are neither white space nor comments. In front of them
+/// stand so many bytes that are blanks already. There are no parts where the brackets don't pair, or where no item would be left.
+pub fn found(
+    alloc: Global,
+    text: &str,
+    front: usize,
+    tokens: &[RawToken],
+    care: Care,
+) -> Result<Option<Parts>, AllocError> {
+    let Some(mut draft) = Draft::new(alloc, text, tokens)? else {
         return Ok(None);
     };
     match care {
@@ -53,6 +72,7 @@ pub fn found(alloc: Global, text: &str, care: Care) -> Result<Option<Parts>, All
     if draft.is_set_aside_whole() {
         return Ok(None);
     }
+    let front = text.get(..front).unwrap_or("");
     Ok(Some(with_front(alloc, front, draft.parts(alloc)?)?))
 }
 
@@ -60,6 +80,7 @@ pub fn found(alloc: Global, text: &str, care: Care) -> Result<Option<Parts>, All
 fn with_front(alloc: Global, front: &str, parts: Parts) -> Result<Parts, AllocError> {
     let Parts {
         mut changes,
+        mut parts,
         mut reaches,
         unsearched,
     } = parts;
@@ -67,26 +88,15 @@ fn with_front(alloc: Global, front: &str, parts: Parts) -> Result<Parts, AllocEr
         Ok(end) if end > 0 => {
             let range = TextRange::new(0, end);
             changes.insert(0, (range, filled(alloc, "", front)?))?;
+            parts.insert(0, Part::Front)?;
             reaches.insert(0, range)?;
         }
         _ => {}
     }
     Ok(Parts {
         changes,
+        parts,
         reaches,
         unsearched,
     })
-}
-
-/// How many bytes of a text stand in front of its tokens: a byte order mark, and a line that names an interpreter.
-fn front_len(text: &str) -> usize {
-    let unmarked = text.strip_prefix('\u{feff}').unwrap_or(text);
-    let mark = text.len().saturating_sub(unmarked.len());
-    match unmarked.strip_prefix("#!") {
-        Some(line) if !line.trim_start().starts_with('[') => {
-            let end = unmarked.find('\n').unwrap_or(unmarked.len());
-            mark.saturating_add(end)
-        }
-        _ => mark,
-    }
 }

@@ -1,10 +1,12 @@
 //! What becomes of a token in the text that is searched, and what it belongs to.
+ghost use Rattle.std.specs.Prelude.{◌≡◌};
+ghost use Rattle.ssr_drafts.specs.Forms.{word_of};
 
 use std::alloc::{AllocError, Global};
 
 /// The form that a token is part of.
 #[derive(Clone, Copy, Debug, PartialEq, Eq)]
-pub(crate) enum Form {
+pub enum Form {
     /// One that is read: the token stays.
     Kept,
     /// A word in front of an item, as `default` and `auto`.
@@ -13,21 +15,12 @@ pub(crate) enum Form {
     Binder,
     /// What can go from the inside of what is read, as `~const`.
     Inner,
-    /// What has a word that stands for it.
-    Word(Word),
-    /// The generics, the return type or the conditions of a function that isn't read with them.
-    Part,
-    /// An item, a statement or an arm that isn't read.
-    Whole,
-}
-
-/// A word that stands for a token.
-#[derive(Clone, Copy, Debug, PartialEq, Eq)]
-pub(crate) enum Word {
-    /// `x`, for the `try` of `try!(..)`.
+    /// The `try` of `try!(..)`, for which a name stands.
     Name,
-    /// `=`, for the last dot of a pattern's `...`.
+    /// The last dot of a pattern's `...`, for which `=` stands.
     Inclusive,
+    /// A unit that isn't read.
+    Unread,
 }
 
 /// Where the node stands that a part set aside belongs to.
@@ -41,9 +34,12 @@ pub(crate) enum Side {
 
 impl Form {
     /// What stands in the place of a token that doesn't stay; blanks follow, up to the token's length.
-    pub(crate) fn word(self) -> &'static str {
+    pub fn word(self) -> &'static str
+        ensures { result.now ≡ word_of self }
+    {
         match self {
-            Form::Word(word) => word.text(),
+            Form::Name => "x",
+            Form::Inclusive => "=",
             _ => "",
         }
     }
@@ -52,21 +48,7 @@ impl Form {
     pub(crate) fn side(self) -> Side {
         match self {
             Form::Modifier | Form::Binder => Side::Ahead,
-            Form::Kept | Form::Inner | Form::Word(_) | Form::Part | Form::Whole => Side::Inside,
-        }
-    }
-
-    /// Whether the token is part of something that isn't read, and so is not searched.
-    pub(crate) fn is_unsearched(self) -> bool {
-        matches!(self, Form::Part | Form::Whole)
-    }
-}
-
-impl Word {
-    fn text(self) -> &'static str {
-        match self {
-            Word::Name => "x",
-            Word::Inclusive => "=",
+            Form::Kept | Form::Inner | Form::Name | Form::Inclusive | Form::Unread => Side::Inside,
         }
     }
 }

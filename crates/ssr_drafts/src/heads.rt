@@ -1,29 +1,10 @@
 //! What a function can be read without: its generics, its return type, and its conditions.
 
 use crate::draft::{Draft, Span};
-use crate::form::Form;
+use crate::units::UnitKind;
 use ssr_syntax_kinds::SyntaxKind;
 use ssr_syntax_kinds::SyntaxKind::*;
 use std::alloc::{AllocError, Global};
-
-/// What stands in front of a part of a function that is read alone, and what behind it.
-#[derive(Clone, Copy, Debug, PartialEq, Eq)]
-struct Around {
-    front: &'static str,
-    back: &'static str,
-}
-
-/// What is read around generics.
-const AROUND_GENERICS: Around = Around {
-    front: "fn f",
-    back: "() {}",
-};
-
-/// What is read around a return type, and around conditions.
-const AROUND_TAIL: Around = Around {
-    front: "fn f() ",
-    back: " {}",
-};
 
 impl Draft<'_> {
     /// Sets aside which of a function's generics, return type and conditions aren't read by themselves.
@@ -45,7 +26,7 @@ impl Draft<'_> {
                 from,
                 to: parameters,
             },
-            AROUND_GENERICS,
+            UnitKind::Generics,
         )?;
         self.treat_part(
             alloc,
@@ -53,7 +34,7 @@ impl Draft<'_> {
                 from: tail,
                 to: conditions,
             },
-            AROUND_TAIL,
+            UnitKind::Tail,
         )?;
         self.treat_part(
             alloc,
@@ -61,15 +42,14 @@ impl Draft<'_> {
                 from: conditions,
                 to: body,
             },
-            AROUND_TAIL,
+            UnitKind::Tail,
         )
     }
 
     /// Sets aside a part of a function, unless it is read.
-    fn treat_part(&mut self, alloc: Global, span: Span, around: Around) -> Result<(), AllocError> {
-        let Around { front, back } = around;
-        if span.from < span.to && !self.reads_between(alloc, span, front, back)? {
-            self.treat_span(span, Form::Part);
+    fn treat_part(&mut self, alloc: Global, part: Span, kind: UnitKind) -> Result<(), AllocError> {
+        if part.from < part.to && !self.reads(alloc, part, kind)? {
+            self.set_aside(part, kind);
         }
         Ok(())
     }

@@ -1,5 +1,5 @@
-//! What of a text is set aside so that it is read, found by its tokens alone. Nothing here has a clause: what is found is looked
-//! at once it is made.
+//! What of a text is set aside so that it is read, found by its tokens alone. Nothing here has a clause but the words of forms, and
+//! what a unit is read between: what is found is looked at once it is made.
 #![tactic(auto)]
 
 mod draft;
@@ -10,4 +10,6 @@ mod rules;
 mod settling;
 mod units;
 
-pub use finding::{Care, Parts, found};
+pub use finding::{Care, Part, Parts, found};
+pub use form::Form;
+pub use units::{Unit, UnitKind};

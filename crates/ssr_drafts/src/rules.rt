@@ -1,10 +1,9 @@
-//! The forms that no stable compiler reads, those that only one of an earlier edition reads, and those of today's that aren't read
-//! yet: by their tokens.
+//! The forms that no stable compiler reads, those that only one of an earlier edition reads, and of today's the default of a `const`
+//! parameter, which isn't read yet: by their tokens.
 
 use crate::draft::{Draft, Span};
 use crate::form::Form;
-use crate::form::Form::{Binder, Inner, Kept, Modifier, Word};
-use crate::form::Word::{Inclusive, Name};
+use crate::form::Form::{Binder, Inclusive, Inner, Kept, Modifier, Name};
 use ssr_syntax_kinds::SyntaxKind;
 use ssr_syntax_kinds::SyntaxKind::*;
 
@@ -16,14 +15,27 @@ fn of_unsafe(rest: &[SyntaxKind]) -> &'static [Form] {
     }
 }
 
+/// Whether a token of this kind may be the default of a `const` parameter.
+fn is_value(kind: SyntaxKind) -> bool {
+    matches!(kind, INT_NUMBER | CHAR | BYTE | TRUE_KW | FALSE_KW | IDENT)
+}
+
 /// The forms of tokens that begin with `const`: it goes in front of a trait and an `impl`, and a parameter loses its default.
 fn of_const(rest: &[SyntaxKind]) -> &'static [Form] {
     match rest {
         [_, TRAIT_KW | IMPL_KW, ..] => &[Modifier],
-        [_, IDENT, COLON, IDENT, EQ, MINUS, _, COMMA | R_ANGLE, ..] => {
-            &[Kept, Kept, Kept, Kept, Inner, Inner, Inner]
-        }
-        [_, IDENT, COLON, IDENT, EQ, _, COMMA | R_ANGLE, ..] => {
+        [
+            _,
+            IDENT,
+            COLON,
+            IDENT,
+            EQ,
+            MINUS,
+            value,
+            COMMA | R_ANGLE,
+            ..
+        ] if is_value(*value) => { &[Kept, Kept, Kept, Kept, Inner, Inner, Inner] }
+        [_, IDENT, COLON, IDENT, EQ, value, COMMA | R_ANGLE, ..] if is_value(*value) => {
             &[Kept, Kept, Kept, Kept, Inner, Inner]
         }
         _ => &[],
@@ -45,7 +57,7 @@ fn of_name(rest: &[SyntaxKind]) -> &'static [Form] {
 fn of_dot(before: SyntaxKind, rest: &[SyntaxKind]) -> &'static [Form] {
     match (before, rest) {
         (COMMA | L_PAREN | COLON, _) => &[],
-        (_, [_, DOT, DOT, ..]) => &[Kept, Kept, Word(Inclusive)],
+        (_, [_, DOT, DOT, ..]) => &[Kept, Kept, Inclusive],
         _ => &[],
     }
 }
@@ -57,7 +69,7 @@ fn of_tokens(before: SyntaxKind, rest: &[SyntaxKind]) -> &'static [Form] {
         [CONST_KW, ..] => of_const(rest),
         [IDENT, ..] => of_name(rest),
         [DOT, ..] => of_dot(before, rest),
-        [TRY_KW, BANG, ..] => &[Word(Name)],
+        [TRY_KW, BANG, ..] => &[Name],
         [IMPL_KW, CONST_KW, ..] => &[Kept, Inner],
         [TILDE | QUESTION, CONST_KW, ..] => &[Inner, Inner],
         _ => &[],
@@ -94,10 +106,13 @@ impl Draft<'_> {
         self.behind(place.saturating_add(count))
     }
 
-    /// Treats `for<..>` of a closure, and answers the place behind it. That of a type stays.
+    /// Treats `for<..>` of a closure, where it has lifetimes alone, and answers the place behind it. That of a type stays.
     fn treat_binder(&mut self, place: usize) -> usize {
         let end = self.behind_angle(place);
-        if matches!(self.kind(end), PIPE | MOVE_KW | ASYNC_KW) {
+        let has_lifetimes = (place.saturating_add(2)..end.saturating_sub(1)).all(|inside| {
+            matches!(self.kind(inside), LIFETIME_IDENT | COMMA | COLON | PLUS)
+        });
+        if has_lifetimes && matches!(self.kind(end), PIPE | MOVE_KW | ASYNC_KW) {
             let span = Span {
                 from: place,
                 to: end,

@@ -1,7 +1,6 @@
 //! Finds what is set aside: as little of each unit as it takes to read it.
 
 use crate::draft::{Draft, Span};
-use crate::form::Form;
 use crate::units::{Body, UnitKind};
 use ssr_syntax::{Reach, SyntaxError, parse_file_of};
 use ssr_syntax_kinds::SyntaxKind::*;
@@ -22,21 +21,15 @@ fn is_read(alloc: Global, text: &str) -> Result<bool, AllocError> {
 
 impl Draft<'_> {
     /// Whether a unit is read alone, as it is treated.
-    fn reads(&self, alloc: Global, unit: Span, kind: UnitKind) -> Result<bool, AllocError> {
-        self.reads_between(alloc, unit, kind.front(), kind.back())
-    }
-
-    /// Whether the tokens of a span are read as they are treated, behind a text and in front of another one.
-    pub(crate) fn reads_between(
+    pub(crate) fn reads(
         &self,
         alloc: Global,
-        span: Span,
-        front: &str,
-        back: &str,
+        unit: Span,
+        kind: UnitKind,
     ) -> Result<bool, AllocError> {
-        let mut text = String::from_str(alloc, front)?;
-        self.write(span, &mut text)?;
-        text.push_str(back)?;
+        let mut text = String::from_str(alloc, kind.front())?;
+        self.write(unit, &mut text)?;
+        text.push_str(kind.back())?;
         is_read(alloc, text.as_str())
     }
 
@@ -122,7 +115,7 @@ impl Draft<'_> {
         let treated = self.treated();
         self.treat_by_rules(unit);
         if !self.reads_since(alloc, unit, kind, treated)? {
-            self.treat_span(unit, Form::Whole);
+            self.set_aside(unit, kind);
         }
         Ok(())
     }
@@ -130,7 +123,7 @@ impl Draft<'_> {
     /// Whether the file has items, and each of them is set aside whole.
     pub(crate) fn is_set_aside_whole(&self) -> bool {
         let from = self.file_body().span.from;
-        from < self.len() && self.behind_unsearched(from) >= self.len()
+        from < self.len() && self.behind_unread(from) >= self.len()
     }
 
     /// Sees that each item of the file is read, with as little set aside as that takes.
@@ -145,7 +138,7 @@ impl Draft<'_> {
     pub(crate) fn settle_coarsely(&mut self, alloc: Global) -> Result<(), AllocError> {
         for unit in self.units(alloc, self.file_body())? {
             if !self.reads(alloc, unit, UnitKind::Items)? {
-                self.treat_span(unit, Form::Whole);
+                self.set_aside(unit, UnitKind::Items);
             }
         }
         Ok(())

@@ -1,40 +1,65 @@
 //! The units of a draft: items, statements and arms, cut by tokens alone.
+ghost use Rattle.std.specs.Prelude.{◌≡◌};
+ghost use Rattle.ssr_drafts.specs.Units.{front_of, back_of};
 
 use crate::draft::{Draft, Span};
 use ssr_syntax_kinds::SyntaxKind;
 use ssr_syntax_kinds::SyntaxKind::*;
 use std::alloc::{AllocError, Global};
 
-/// What stands one behind the other.
+/// What can be read by itself.
 #[derive(Clone, Copy, Debug, PartialEq, Eq)]
-pub(crate) enum UnitKind {
+pub enum UnitKind {
+    /// An item.
     Items,
-    /// Items of a trait, of which functions need no body.
+    /// An item of a trait, of which functions need no body.
     Members,
-    /// Those of a block of foreign items, which have none.
+    /// One of a block of foreign items, which have none.
     Foreign,
+    /// A statement.
     Statements,
+    /// An arm of a `match`.
     Arms,
+    /// The generics of a function.
+    Generics,
+    /// The return type of a function, or its conditions.
+    Tail,
+}
+
+/// A unit that isn't read: the tokens from the place `from` up to before `to` among those that are neither white space nor comments.
+#[derive(Clone, Copy, Debug, PartialEq, Eq)]
+pub struct Unit {
+    pub kind: UnitKind,
+    pub from: usize,
+    pub to: usize,
 }
 
 impl UnitKind {
     /// What a unit is read behind, to be read as a file. No inner attribute may stand there.
-    pub(crate) fn front(self) -> &'static str {
+    pub fn front(self) -> &'static str
+        ensures { result.now ≡ front_of self }
+    {
         match self {
             UnitKind::Items => "use a; ",
             UnitKind::Members => "trait T { ",
             UnitKind::Foreign => "extern { ",
             UnitKind::Statements => "fn f() { ",
             UnitKind::Arms => "fn f() { match x { ",
+            UnitKind::Generics => "fn f ",
+            UnitKind::Tail => "fn f() ",
         }
     }
 
     /// What follows a unit that is read as a file.
-    pub(crate) fn back(self) -> &'static str {
+    pub fn back(self) -> &'static str
+        ensures { result.now ≡ back_of self }
+    {
         match self {
             UnitKind::Items => "",
             UnitKind::Members | UnitKind::Foreign | UnitKind::Statements => " }",
             UnitKind::Arms => " } }",
+            UnitKind::Generics => " () {}",
+            UnitKind::Tail => " {}",
         }
     }
 }
@@ -158,6 +183,8 @@ impl Draft<'_> {
                     && self.kind_before(place, 1) == R_ANGLE
                     && self.kind_before(place, 2) == EQ
             }
+            // the parts of a function aren't cut
+            UnitKind::Generics | UnitKind::Tail => false,
         }
     }
 

@@ -1,5 +1,5 @@
 -- Laws of changes that keep the place of each byte outside of them.
-use Rattle.std.proofs.Common.{arith, ◌≡◌, ℕ, ◌≤◌, Bool, true, false, List, [], ◌∷◌, Ok, length, map, drop, subst, sym, ◌∙◌}
+use Rattle.std.proofs.Common.{arith, ◌≡◌, ℕ, ◌≤◌, Bool, true, List, [], ◌∷◌, length, map, drop, subst, sym, ◌∙◌}
 use Rattle.std.specs.Prelude.{◌==◌}
 use Rattle.std.specs.List.{All}
 use Rattle.std.proofs.lemmas.Bool.{eqb-true}
@@ -11,6 +11,7 @@ use Rattle.ssr_syntax_kinds.specs.declared.reach.Reach.TheVariants.{Whole}
 use Rattle.ssr_base_trees.specs.Origins.{Span, span_of}
 use Rattle.ssr_syntax_tree.specs.Syntax.{Syntax, source_of}
 use Rattle.ssr_syntax.specs.Reading as reading
+use Rattle.ssr_set_aside.specs.Parts.{no_parts}
 use Rattle.ssr_set_aside.specs.SetAside.{SetAside, AreCovered, BeginInOrder, Covers, AreBlanked, IsBlanked, IsRead, IsSetAside, KeepsLength, none, other, one}
 
 -- the changes from some place on are in order if those from the next one on are
@@ -61,6 +62,7 @@ as_it_stands text made is empty no_reach all = record {
   replaced = subst (λ (cs : List Change). IsReplaced 0 text cs (source_of made.tree)) (sym empty) (subst (IsReplaced 0 text []) (sym is) (same 0 text));
   covered = rw (empty, no_reach) tt;
   blanks = rw (empty, all) none;
+  parts = rw (empty, all) no_parts;
 }
 
 -- what is set aside keeps the tree that is read

@@ -2,3 +2,6 @@ mod Left
 mod Places
 mod KeptPlaces
 mod Beside
+mod Stripped
+mod Blanks
+mod PartLaws

@@ -1,3 +1,6 @@
+pub mod Fronts
+pub mod Forms
+pub mod Parts
 pub mod SetAside
 pub mod SetAsideCode
 pub mod Sparing

@@ -6,6 +6,7 @@ use Rattle.ssr_base_trees.specs.Origins.{Span}
 use Rattle.ssr_syntax_kinds.specs.declared.reach.Reach.TheVariants.{Whole}
 use Rattle.ssr_syntax_tree.specs.Syntax.{Syntax, source_of}
 use Rattle.ssr_syntax.specs.Reading as reading
+use Rattle.ssr_set_aside.specs.Parts.{AreParts}
 
 -- the tree of the text that is searched, the changes of a file's text that made that text, of each the bytes that no match may
 -- touch, and the bytes of which nothing is searched
@@ -52,7 +53,7 @@ pub data AreBlanked : List Change → List Span → Type 0 where
   one : (c : Change) (cs : List Change) (span : Span) (spans : List Span) → IsBlanked span c → AreBlanked cs spans → AreBlanked (c ∷ cs) (span ∷ spans)
 
 -- The searched text is the file's with changes made, which keep the place of each byte outside of them, and begin and end between
--- two characters. Each has its reach. What is told as not searched is replaced by blanks.
+-- two characters. Each has its reach. What is told as not searched is replaced by blanks. Each is a part that may go.
 pub record IsSetAside (text : List ℕ) (made : SetAside) : Type 0 where
   pub order : ChangesInOrder 0 made.aside
   pub fits : All (FitsText text) made.aside
@@ -60,6 +61,7 @@ pub record IsSetAside (text : List ℕ) (made : SetAside) : Type 0 where
   pub replaced : IsReplaced 0 text made.aside (source_of made.tree)
   pub covered : AreCovered made.aside made.reaches
   pub blanks : AreBlanked made.aside made.unsearched
+  pub parts : AreParts text made.aside made.unsearched
 
 -- the tree is what is read of its text
 abbrev pub IsRead : SetAside → Type 0

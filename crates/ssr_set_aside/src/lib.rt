@@ -3,11 +3,15 @@
 #![tactic(auto)]
 
 mod aside;
+mod forms;
+mod fronts;
 mod keeping;
 pub mod laws;
+mod parts;
 mod reaches;
 mod setting;
 mod sparing;
+mod units;
 
 pub use aside::SetAside;
 pub use reaches::Reaches;
