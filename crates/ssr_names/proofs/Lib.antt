@@ -2,3 +2,9 @@ mod Climbing
 mod Naming
 mod Collecting
 mod Binding
+mod LookingUp
+mod Following
+mod Settling
+mod Telling
+mod Spelling
+mod Copying

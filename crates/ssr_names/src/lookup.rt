@@ -1,12 +1,22 @@
 //! What names and paths stand for where they are written.
 
+ghost use Rattle.std.specs.Prelude.{◌≡◌, ◌⊎◌, true, false, Some, List, [], ◌∷◌, ◌++◌, slice_get, All, Contains, IfOk, IfSome, OnOk};
+ghost use Rattle.ssr_names_items.specs.declared.table.ImportNo.{ImportNo};
+ghost use Rattle.ssr_names_items.specs.declared.table.ModuleNo.{ModuleNo};
+ghost use Rattle.ssr_names_items.specs.declared.table.Name.{Name};
+ghost use Rattle.ssr_names.specs.declared.lookup.Question.{Question};
+ghost use Rattle.ssr_names.specs.Private.Meanings.{Means, is_something};
+ghost use Rattle.ssr_names.specs.Lookup.{Begins, Counts, Finds, IsAsked, IsBase, IsBehind, IsEverywhere, IsGlob, IsInRoot, IsNothing, IsOfBuiltin, IsOfCrate, IsOrdered, IsOutside, IsUnaliased, IsUp, IsVariant, IsVoid, PathStandsFor, Reaches, StandsFor};
+ghost use Rattle.ssr_names.specs.Private.Answered.{IsAround, IsBrought, IsBroughtIn, IsDeclaredAs, IsFoundAmong, IsFront, IsFrontOf, IsInModule, IsUnread, is_declared, is_import, place_of};
+ghost use Rattle.ssr_names.specs.Private.Found.{Adds, Hides, Joins, found_of};
+
 use crate::definitions::{Definition, Meaning, OutsideNo};
 use crate::outside::OutsidePaths;
-use crate::space::{Space, between};
+use crate::space::{Member, Space, between, is_same};
 use crate::std_names::{brought_by_glob, is_builtin_type, is_in_type_module};
 use ssr_names_items::{
-    Edition, Entry, ImportNo, ItemKind, ItemNo, ModuleKind, ModuleNo, Name, Namespace, Owner,
-    Start, Thing,
+    Brings, Edition, Entry, ImportNo, ItemKind, ItemNo, ModuleKind, ModuleNo, Name, Namespace,
+    Owner, Start, Thing,
 };
 use std::alloc::{AllocError, Global};
 use std::collections::BTreeSet;
@@ -35,7 +45,9 @@ impl Found {
         is_sure: false,
     };
 
-    fn of(meaning: Meaning, is_sure: bool) -> Found {
+    fn of(meaning: Meaning, is_sure: bool) -> Found
+        ensures { result ≡ found_of meaning is_sure }
+    {
         Found {
             meaning,
             is_sure: is_sure && meaning.is_something(),
@@ -44,7 +56,9 @@ impl Found {
 
     /// What is known where this is found first: it hides what is found behind it, if it is sure. But a path that isn't read may
     /// have no such name in a namespace, and then it hides no definition of the run.
-    fn hiding(self, behind: Found) -> Found {
+    fn hiding(self, behind: Found) -> Found
+        ensures { Hides self behind result }
+    {
         if !self.is_sure {
             return self.join(behind);
         }
@@ -58,7 +72,9 @@ impl Found {
     }
 
     /// What is known where both count.
-    fn join(self, other: Found) -> Found {
+    fn join(self, other: Found) -> Found
+        ensures { Joins self other result }
+    {
         Found {
             meaning: self.meaning.join(other.meaning),
             is_sure: self.is_sure || other.is_sure,
@@ -109,19 +125,66 @@ struct GlobWalk {
 }
 
 impl GlobWalk {
-    fn new(alloc: Global) -> GlobWalk {
+    fn new(alloc: Global) -> GlobWalk
+        ensures { result.imports.items ≡ [] }
+    {
         GlobWalk {
             imports: Vec::new(alloc),
             seen: BTreeSet::new(alloc),
         }
     }
 
-    fn add(&mut self, import: ImportNo) -> Result<(), AllocError> {
+    /// The import at a place.
+    fn at(&self, place: usize) -> Option<ImportNo>
+        ensures { result ≡ slice_get self.now.imports.items place }
+    {
+        self.imports.get(place).copied()
+    }
+
+    fn add(&mut self, import: ImportNo) -> Result<(), AllocError>
+        ensures { OnOk result ((self.new.imports.items ≡ self.old.imports.items) ⊎ (self.new.imports.items ≡ self.old.imports.items ++ import ∷ [])) }
+    {
         if self.seen.insert(import)? {
             self.imports.push(import)?;
         }
         Ok(())
     }
+}
+
+/// Whether an entry is an import.
+fn is_import(thing: Thing) -> bool
+    ensures { result ≡ is_import thing }
+{
+    matches!(thing, Thing::Import(_))
+}
+
+/// Whether an entry is the import that is left out.
+fn is_skipped(thing: Thing, skipped: Option<ImportNo>) -> bool
+    ensures skipped { result ≡ true → ¬ IsAsked thing skipped }
+    ensures asked { result ≡ false → IsAsked thing skipped }
+{
+    match thing {
+        Thing::Import(import) => is_left_out(skipped, import),
+        _ => false,
+    }
+}
+
+/// Whether an import is the one that is left out.
+fn is_left_out(skipped: Option<ImportNo>, import: ImportNo) -> bool
+    ensures out { result ≡ true → skipped ≡ Some import }
+    ensures asked { result ≡ false → ¬ (skipped ≡ Some import) }
+{
+    match skipped {
+        Some(other) => other.0 == import.0,
+        None => false,
+    }
+}
+
+/// Whether a member is one of an item with a name.
+fn is_member(member: &Member, item: ItemNo, name: Name) -> bool
+    ensures { result ≡ true → (member.now.of ≡ item) × (member.now.name ≡ name) }
+{
+    member.of.0 == item.0 && member.name.0 == name.0
 }
 
 impl<'a> Space<'a> {
@@ -138,7 +201,9 @@ impl<'a> Space<'a> {
     }
 
     /// What an unread name may be.
-    fn unread(&self, question: Question) -> Found {
+    fn unread(&self, question: Question) -> Found
+        ensures { IsUnread result }
+    {
         if self.is_never_hidden(question) {
             Found::NOTHING
         } else {
@@ -147,7 +212,9 @@ impl<'a> Space<'a> {
     }
 
     /// What a name that isn't found in a module may be.
-    fn if_open(&self, module: ModuleNo, question: Question) -> Found {
+    fn if_open(&self, module: ModuleNo, question: Question) -> Found
+        ensures { IsUnread result }
+    {
         match self.module(module) {
             Some(row) if !row.is_open => Found::NOTHING,
             _ => self.unread(question),
@@ -155,7 +222,11 @@ impl<'a> Space<'a> {
     }
 
     /// What an entry stands for.
-    pub(crate) fn entry_meaning(&self, entry: &Entry, question: Question) -> Meaning {
+    pub(crate) fn entry_meaning(&self, entry: &Entry, question: Question) -> Meaning
+        ensures stands { Means result (StandsFor self.now question.namespace entry.now.thing) }
+        ensures nothing { result ≡ Meaning.Nothing → IsNothing self.now question.namespace entry.now.thing }
+        ensures something { is_something result ≡ true → ¬ IsVoid self.now question.namespace entry.now.thing }
+    {
         match entry.thing {
             Thing::Item(item) => Meaning::One(Definition::Item(self.first_item(item))),
             Thing::Module(module) => Meaning::One(Definition::Module(module)),
@@ -168,18 +239,23 @@ impl<'a> Space<'a> {
         }
     }
 
-    /// Whether an entry counts: the viewer sees it, and it isn't what is left out.
-    fn counts(&self, entry: &Entry, question: Question) -> bool {
-        let is_skipped = match (entry.thing, question.skipped) {
-            (Thing::Import(import), Some(skipped)) => import == skipped,
-            _ => false,
-        };
-        !is_skipped && self.is_seen(entry.visibility, question.viewer)
+    /// Whether an entry counts: it is one of the name in a module, the viewer sees it, and it isn't what is left out.
+    fn counts(&self, module: ModuleNo, entry: &Entry, question: Question) -> bool
+        ensures seen { result ≡ true → Counts self.now «module» question entry.now }
+        ensures unseen { IsOrdered self.now → result ≡ false → ¬ Counts self.now «module» question entry.now }
+    {
+        entry.module.0 == module.0
+            && entry.name.0 == question.name.0
+            && entry.namespace == question.namespace
+            && !is_skipped(entry.thing, question.skipped)
+            && self.is_seen(entry.visibility, question.viewer)
     }
 
     /// Of two entries of one name what both stand for: items of one sort are one definition, but for aliases, which may be those
     /// of different types.
-    fn same_items(&self, had: Meaning, more: Meaning) -> Meaning {
+    fn same_items(&self, had: Meaning, more: Meaning) -> Meaning
+        ensures { Means result (λ d. (had ≡ Meaning.One d) ⊎ (more ≡ Meaning.One d)) }
+    {
         match (had, more) {
             (Meaning::One(Definition::Item(one)), Meaning::One(Definition::Item(other))) => {
                 let kind = self.kind_of(one);
@@ -195,41 +271,75 @@ impl<'a> Space<'a> {
     }
 
     /// What the items among entries of a name stand for.
-    fn declared(&self, entries: &[Entry], question: Question) -> Found {
+    fn declared(&self, module: ModuleNo, entries: &[Entry], question: Question) -> Found
+        ensures { IsFoundAmong self.now «module» question entries.now is_declared result }
+    {
         let mut found = Found::NOTHING;
         for entry in entries {
-            if !matches!(entry.thing, Thing::Import(_)) && self.counts(entry, question) {
-                let meaning = self.entry_meaning(entry, question);
-                found = Found {
-                    meaning: self.same_items(found.meaning, meaning),
-                    is_sure: found.is_sure || (entry.is_sure && meaning.is_something()),
-                };
-            }
+            found = self.with_declared(found, module, entry, question);
         }
         found
     }
 
+    /// What is found with an entry more, if that is an item.
+    fn with_declared(
+        &self,
+        found: Found,
+        module: ModuleNo,
+        entry: &Entry,
+        question: Question,
+    ) -> Found
+        ensures { Adds self.now «module» question entry.now is_declared found result }
+    {
+        if is_import(entry.thing) || !self.counts(module, entry, question) {
+            return found;
+        }
+        let meaning = self.entry_meaning(entry, question);
+        Found {
+            meaning: self.same_items(found.meaning, meaning),
+            is_sure: found.is_sure || (entry.is_sure && meaning.is_something()),
+        }
+    }
+
     /// What the imports among entries of a name stand for.
-    fn imported(&self, entries: &[Entry], question: Question) -> Found {
+    fn imported(&self, module: ModuleNo, entries: &[Entry], question: Question) -> Found
+        ensures { IsFoundAmong self.now «module» question entries.now is_import result }
+    {
         let mut found = Found::NOTHING;
         for entry in entries {
-            if matches!(entry.thing, Thing::Import(_)) && self.counts(entry, question) {
-                let meaning = self.entry_meaning(entry, question);
-                found = found.join(Found::of(meaning, entry.is_sure));
-            }
+            found = self.with_imported(found, module, entry, question);
         }
         found
+    }
+
+    /// What is found with an entry more, if that is an import.
+    fn with_imported(
+        &self,
+        found: Found,
+        module: ModuleNo,
+        entry: &Entry,
+        question: Question,
+    ) -> Found
+        ensures { Adds self.now «module» question entry.now is_import found result }
+    {
+        if !is_import(entry.thing) || !self.counts(module, entry, question) {
+            return found;
+        }
+        let meaning = self.entry_meaning(entry, question);
+        found.join(Found::of(meaning, entry.is_sure))
     }
 
     /// What a module has under a name but for what comes in by `*`. An item that is there in each configuration leaves no room
     /// for an import.
-    fn explicit(&self, module: ModuleNo, question: Question) -> Found {
-        let entries = self.entries(module, question.name, question.namespace);
-        let declared = self.declared(entries, question);
+    fn explicit(&self, module: ModuleNo, question: Question) -> Found
+        ensures { IsDeclaredAs self.now «module» question result }
+    {
+        let entries = self.entries(module, question.name);
+        let declared = self.declared(module, entries, question);
         if declared.is_sure {
             return declared;
         }
-        declared.join(self.imported(entries, question))
+        declared.join(self.imported(module, entries, question))
     }
 
     /// Adds the imports by `*` of a module that a viewer sees.
@@ -238,18 +348,35 @@ impl<'a> Space<'a> {
         walk: &mut GlobWalk,
         module: ModuleNo,
         question: Question,
-    ) -> Result<(), AllocError> {
+    ) -> Result<(), AllocError>
+        ensures { (root : ModuleNo) (asked : Question) → All (Reaches self.now root asked) walk.old.imports.items → ((i : ImportNo) → IsGlob self.now «module» question i → Reaches self.now root asked i) → OnOk result (All (Reaches self.now root asked) walk.new.imports.items) }
+    {
         for glob in self.globs_of(module) {
-            if question.skipped == Some(glob.import) {
+            if !self.is_glob(module, glob.import, question) {
                 continue;
             }
-            if let Some(import) = self.import(glob.import)
-                && self.is_seen(import.visibility, question.viewer)
-            {
-                walk.add(glob.import)?;
-            }
+            walk.add(glob.import)?;
         }
         Ok(())
+    }
+
+    /// Whether an import brings all into a module, the viewer sees it, and it isn't what is left out.
+    fn is_glob(&self, module: ModuleNo, number: ImportNo, question: Question) -> bool
+        ensures { result ≡ true → IsGlob self.now «module» question number }
+    {
+        let Some(import) = self.import(number) else {
+            return false;
+        };
+        if !is_same(import.module, module) {
+            return false;
+        }
+        if is_left_out(question.skipped, number) {
+            return false;
+        }
+        match import.brings {
+            Brings::Glob => self.is_seen(import.visibility, question.viewer),
+            _ => false,
+        }
     }
 
     /// What a name is that comes in by `*`.
@@ -259,7 +386,9 @@ impl<'a> Space<'a> {
         outside: &mut OutsidePaths,
         module: ModuleNo,
         question: Question,
-    ) -> Result<Found, AllocError> {
+    ) -> Result<Found, AllocError>
+        ensures { IfOk result (IsBroughtIn self.now «module» question) }
+    {
         let mut found = self.if_open(module, question);
         if self.globs_of(module).is_empty() || self.comes_by_no_glob(question) {
             return Ok(found);
@@ -267,7 +396,7 @@ impl<'a> Space<'a> {
         let mut walk = GlobWalk::new(alloc);
         self.add_globs(&mut walk, module, question)?;
         for place in 0..self.globs.len() {
-            let Some(import) = walk.imports.get(place).copied() else {
+            let Some(import) = walk.at(place) else {
                 break;
             };
             let brought = self.brought(outside, &mut walk, import, question)?;
@@ -283,7 +412,10 @@ impl<'a> Space<'a> {
         walk: &mut GlobWalk,
         number: ImportNo,
         question: Question,
-    ) -> Result<Found, AllocError> {
+    ) -> Result<Found, AllocError>
+        ensures brought { IfOk result (IsBrought self.now question number) }
+        ensures reached { (root : ModuleNo) → All (Reaches self.now root question) walk.old.imports.items → Reaches self.now root question number → OnOk result (All (Reaches self.now root question) walk.new.imports.items) }
+    {
         let Some(import) = self.import(number) else {
             return Ok(Found::NOTHING);
         };
@@ -325,10 +457,9 @@ impl<'a> Space<'a> {
     /// Whether a module has something under a name that isn't seen, which hides what comes in by `*` there.
     fn hides_globs(&self, module: ModuleNo, question: Question) -> bool {
         !self.globs_of(module).is_empty()
-            && self
-                .entries(module, question.name, question.namespace)
-                .iter()
-                .any(|entry| !self.is_seen(entry.visibility, question.viewer))
+            && self.entries(module, question.name).iter().any(|entry| entry.namespace
+                == question.namespace
+                && !self.is_seen(entry.visibility, question.viewer))
     }
 
     /// Whether a meaning is a variant that isn't there in each configuration.
@@ -350,9 +481,13 @@ impl<'a> Space<'a> {
     }
 
     /// The variant of an enum with a name.
-    fn variant(&self, item: ItemNo, name: Name) -> Meaning {
+    fn variant(&self, item: ItemNo, name: Name) -> Meaning
+        ensures { Means result (IsVariant self.now item name) }
+    {
         match self.members_of(item, name).first() {
-            Some(member) if self.kind_of(member.item) == Some(ItemKind::Variant) => {
+            Some(member)
+                if is_member(member, item, name)
+                    && self.kind_of(member.item) == Some(ItemKind::Variant) => {
                 Meaning::One(Definition::Item(self.first_item(member.item)))
             }
             _ => Meaning::Nothing,
@@ -369,7 +504,9 @@ impl<'a> Space<'a> {
         outside: &mut OutsidePaths,
         path: OutsideNo,
         question: Question,
-    ) -> Result<Meaning, AllocError> {
+    ) -> Result<Meaning, AllocError>
+        ensures { IfOk result (λ found. Means found IsOutside) }
+    {
         let unread = self.unread(question).meaning;
         let Some(row) = outside.path(path) else {
             return Ok(unread);
@@ -407,7 +544,9 @@ impl<'a> Space<'a> {
     }
 
     /// Whether nothing that is found behind this can be meant.
-    fn hides_all(&self, outside: &OutsidePaths, found: Found) -> bool {
+    fn hides_all(&self, outside: &OutsidePaths, found: Found) -> bool
+        ensures { result ≡ true → found.is_sure ≡ true }
+    {
         found.is_sure && !self.may_lack_name(outside, found.meaning)
     }
 
@@ -433,7 +572,9 @@ impl<'a> Space<'a> {
         outside: &mut OutsidePaths,
         module: ModuleNo,
         question: Question,
-    ) -> Result<Found, AllocError> {
+    ) -> Result<Found, AllocError>
+        ensures { IfOk result (IsInModule self.now «module» question) }
+    {
         let explicit = self.explicit(module, question);
         if self.hides_all(outside, explicit) {
             return Ok(explicit);
@@ -449,26 +590,29 @@ impl<'a> Space<'a> {
         outside: &mut OutsidePaths,
         module: ModuleNo,
         question: Question,
-    ) -> Result<Found, AllocError> {
+    ) -> Result<Found, AllocError>
+        ensures { IfOk result (IsAround self.now question «module») }
+    {
         let mut found = Found::NOTHING;
         let mut at = module;
-        for _ in 0..self.table.modules.len() {
+        for step in 0..self.table.modules.len() {
             let here = self.in_module(alloc, outside, at, question)?;
             found = found.hiding(here);
-            let Some(row) = self.module(at) else {
-                break;
-            };
-            match row.parent {
-                Some(parent) if row.kind == ModuleKind::Block && !self.hides_all(outside, found) =>
-                    { at = parent }
-                _ => break,
+            if self.hides_all(outside, found) {
+                return Ok(found);
             }
+            let Some(up) = self.around_block(at) else {
+                return Ok(found);
+            };
+            at = up;
         }
         Ok(found)
     }
 
     /// The crate of a name.
-    fn as_crate(&self, question: Question) -> Meaning {
+    fn as_crate(&self, question: Question) -> Meaning
+        ensures { Means result (IsOfCrate self.now question) }
+    {
         match self.crate_named(question.name) {
             Some(definition) if question.namespace == Namespace::Type => Meaning::One(definition),
             _ => Meaning::Nothing,
@@ -476,7 +620,9 @@ impl<'a> Space<'a> {
     }
 
     /// The builtin type of a name.
-    fn as_builtin(&self, question: Question) -> Meaning {
+    fn as_builtin(&self, question: Question) -> Meaning
+        ensures { Means result (IsOfBuiltin self.now question) }
+    {
         match self.builtin_type(question.name) {
             Some(definition) if question.namespace == Namespace::Type => Meaning::One(definition),
             _ => Meaning::Nothing,
@@ -489,7 +635,9 @@ impl<'a> Space<'a> {
         outside: &mut OutsidePaths,
         module: ModuleNo,
         question: Question,
-    ) -> Result<Meaning, AllocError> {
+    ) -> Result<Meaning, AllocError>
+        ensures { IfOk result (λ found. Means found (IsEverywhere self.now question)) }
+    {
         let as_crate = self.as_crate(question);
         if as_crate.is_something() {
             return Ok(as_crate);
@@ -510,7 +658,9 @@ impl<'a> Space<'a> {
         module: ModuleNo,
         question: Question,
         is_import: bool,
-    ) -> Result<Meaning, AllocError> {
+    ) -> Result<Meaning, AllocError>
+        ensures { IfOk result (λ found. Means found (λ d. Finds self.now question «module» d ⊎ ((is_import ≡ true) × IsInRoot self.now «module» question d))) }
+    {
         let edition = self.edition(module);
         if is_import && edition == Some(Edition::Edition2015) {
             return self.from_root(alloc, outside, module, question);
@@ -534,7 +684,9 @@ impl<'a> Space<'a> {
         outside: &mut OutsidePaths,
         module: ModuleNo,
         question: Question,
-    ) -> Result<Meaning, AllocError> {
+    ) -> Result<Meaning, AllocError>
+        ensures { IfOk result (λ found. Means found (Finds self.now question «module»)) }
+    {
         let around = self.outward(alloc, outside, module, question)?;
         if around.is_sure {
             return Ok(around.meaning);
@@ -550,7 +702,9 @@ impl<'a> Space<'a> {
         outside: &mut OutsidePaths,
         module: ModuleNo,
         question: Question,
-    ) -> Result<Meaning, AllocError> {
+    ) -> Result<Meaning, AllocError>
+        ensures { IfOk result (λ found. Means found (IsInRoot self.now «module» question)) }
+    {
         let root = self.in_module(alloc, outside, self.root_of(module), question)?;
         if root.is_sure {
             return Ok(root.meaning);
@@ -565,7 +719,9 @@ impl<'a> Space<'a> {
         outside: &mut OutsidePaths,
         module: ModuleNo,
         question: Question,
-    ) -> Result<Meaning, AllocError> {
+    ) -> Result<Meaning, AllocError>
+        ensures { IfOk result (λ found. Means found (λ d. IsInRoot self.now «module» question d ⊎ IsOfCrate self.now question d)) }
+    {
         match self.edition(module) {
             Some(Edition::Edition2015) => self.from_root(alloc, outside, module, question),
             Some(_) => Ok(self.as_crate(question)),
@@ -574,14 +730,18 @@ impl<'a> Space<'a> {
     }
 
     /// What a name behind a type stands for: its variant, its one associated item, or what has that name.
-    fn behind_item(&self, item: ItemNo, name: Name) -> Meaning {
+    fn behind_item(&self, item: ItemNo, name: Name) -> Meaning
+        ensures { Means result (λ d. IsVariant self.now item name d ⊎ (d ≡ Definition.Member item name)) }
+    {
         let Some(row) = self.item(item) else {
             return Meaning::Unknown;
         };
         match row.kind {
             ItemKind::Struct | ItemKind::Enum | ItemKind::Union | ItemKind::Trait => {
                 match self.members_of(item, name) {
-                    [member] => Meaning::One(Definition::Item(self.first_item(member.item))),
+                    [member] if is_member(member, item, name) => {
+                        Meaning::One(Definition::Item(self.first_item(member.item)))
+                    }
                     _ => Meaning::One(Definition::Member(item, name)),
                 }
             }
@@ -591,7 +751,9 @@ impl<'a> Space<'a> {
     }
 
     /// What a definition is, where that is a type alias what it is an alias of.
-    pub(crate) fn unaliased(&self, definition: Definition) -> Meaning {
+    pub(crate) fn unaliased(&self, definition: Definition) -> Meaning
+        ensures { Means result (IsUnaliased self.now definition) }
+    {
         match definition {
             Definition::Item(item) => match self.item(item) {
                 Some(row) if row.kind == ItemKind::TypeAlias && row.owner == Owner::Module => {
@@ -609,7 +771,9 @@ impl<'a> Space<'a> {
         outside: &mut OutsidePaths,
         path: OutsideNo,
         name: Name,
-    ) -> Result<Meaning, AllocError> {
+    ) -> Result<Meaning, AllocError>
+        ensures { IfOk result (λ found. Means found IsOutside) }
+    {
         let parent = match self.type_of_module(outside, path) {
             Some(builtin) if !is_in_type_module(self.text(name)) => builtin,
             _ => path,
@@ -641,7 +805,9 @@ impl<'a> Space<'a> {
         outside: &mut OutsidePaths,
         definition: Definition,
         question: Question,
-    ) -> Result<Meaning, AllocError> {
+    ) -> Result<Meaning, AllocError>
+        ensures { IfOk result (λ found. Means found (IsBehind self.now question definition)) }
+    {
         let Meaning::One(plain) = self.unaliased(definition) else {
             return Ok(Meaning::Unknown);
         };
@@ -657,19 +823,26 @@ impl<'a> Space<'a> {
     }
 
     /// The module that a path begins in, where it doesn't begin with a name.
-    fn base(&self, start: Start, module: ModuleNo) -> Option<ModuleNo> {
+    fn base(&self, start: Start, module: ModuleNo) -> Option<ModuleNo>
+        ensures { IfSome result (IsBase self.now «module» start) }
+    {
         match start {
             Start::Plain | Start::Global => None,
             Start::Crate => Some(self.root_of(module)),
             Start::SelfModule => Some(self.plain_module(module)),
-            Start::Super(count) => {
-                let mut at = self.plain_module(module);
-                for _ in 0..count {
-                    at = self.parent_module(at)?;
-                }
-                Some(at)
-            }
+            Start::Super(count) => self.module_up(self.plain_module(module), count),
         }
+    }
+
+    /// The module so many levels up.
+    fn module_up(&self, module: ModuleNo, count: u32) -> Option<ModuleNo>
+        ensures { IfSome result (IsUp self.now count «module») }
+    {
+        let mut at = module;
+        for step in 0..count {
+            at = self.parent_module(at)?;
+        }
+        Some(at)
     }
 
     /// Whether a path begins outside of a file of which no crate is known: at the root of its crate, or above its own module.
@@ -692,7 +865,9 @@ impl<'a> Space<'a> {
         outside: &mut OutsidePaths,
         path: PathQuestion<'_>,
         question: Question,
-    ) -> Result<Meaning, AllocError> {
+    ) -> Result<Meaning, AllocError>
+        ensures { IfOk result (λ found. Means found (Begins self.now (place_of path.entry) question)) }
+    {
         let is_import = path.import.is_some();
         match path.start {
             Start::Plain => self.first_name(alloc, outside, path.module, question, is_import),
@@ -714,7 +889,9 @@ impl<'a> Space<'a> {
         alloc: Global,
         outside: &mut OutsidePaths,
         path: PathQuestion<'_>,
-    ) -> Result<Front, AllocError> {
+    ) -> Result<Front, AllocError>
+        ensures { IfOk result (IsFrontOf self.now (place_of path.entry) path.entry.names.now) }
+    {
         self.front_from(alloc, outside, path, Front::Empty)
     }
 
@@ -725,23 +902,39 @@ impl<'a> Space<'a> {
         outside: &mut OutsidePaths,
         path: PathQuestion<'_>,
         start: Front,
-    ) -> Result<Front, AllocError> {
+    ) -> Result<Front, AllocError>
+        ensures { IsFront self.now (place_of path.entry) [] start → IfOk result (IsFrontOf self.now (place_of path.entry) path.entry.names.now) }
+    {
         let Some((_, names)) = path.names.split_last() else {
             return Ok(start);
         };
         let mut front = start;
         for name in names {
-            let step = Step {
-                name: *name,
-                namespace: Namespace::Type,
-            };
-            let answer = self.next(alloc, outside, path, front, step)?;
-            let Meaning::One(definition) = answer.meaning else {
-                return Ok(Front::Ended(answer));
-            };
-            front = Front::Behind(definition);
+            front = self.front_with(alloc, outside, path, front, *name)?;
         }
         Ok(front)
+    }
+
+    /// What the names of a path stand for with one more.
+    fn front_with(
+        &self,
+        alloc: Global,
+        outside: &mut OutsidePaths,
+        path: PathQuestion<'_>,
+        front: Front,
+        name: Name,
+    ) -> Result<Front, AllocError>
+        ensures { (done : List Name) → IsFront self.now (place_of path.entry) done front → IfOk result (IsFront self.now (place_of path.entry) (done ++ name ∷ [])) }
+    {
+        let step = Step {
+            name,
+            namespace: Namespace::Type,
+        };
+        let answer = self.next(alloc, outside, path, front, step)?;
+        match answer.meaning {
+            Meaning::One(definition) => Ok(Front::Behind(definition)),
+            _ => Ok(Front::Ended(answer)),
+        }
     }
 
     /// What one more name of a path stands for.
@@ -752,22 +945,26 @@ impl<'a> Space<'a> {
         path: PathQuestion<'_>,
         front: Front,
         step: Step,
-    ) -> Result<PathAnswer, AllocError> {
+    ) -> Result<PathAnswer, AllocError>
+        ensures { (done : List Name) → IsFront self.now (place_of path.entry) done front → IfOk result (λ answer. Means answer.meaning (PathStandsFor self.now (place_of path.entry) step.namespace (done ++ step.name ∷ []))) }
+    {
         let question = Question {
             name: step.name,
             namespace: step.namespace,
             viewer: path.module,
             skipped: path.import,
         };
-        let meaning = match front {
-            Front::Empty => self.first(alloc, outside, path, question)?,
-            Front::Behind(definition) => self.behind(alloc, outside, definition, question)?,
-            Front::Ended(answer) => return Ok(answer),
-        };
-        Ok(PathAnswer {
-            meaning,
-            name: Some(step.name),
-        })
+        match front {
+            Front::Empty => Ok(PathAnswer {
+                meaning: self.first(alloc, outside, path, question)?,
+                name: Some(step.name),
+            }),
+            Front::Behind(definition) => Ok(PathAnswer {
+                meaning: self.behind(alloc, outside, definition, question)?,
+                name: Some(step.name),
+            }),
+            Front::Ended(answer) => Ok(answer),
+        }
     }
 
     /// What a path stands for in a namespace, where it is known what the names in front of the last one stand for.
@@ -777,7 +974,9 @@ impl<'a> Space<'a> {
         outside: &mut OutsidePaths,
         path: PathQuestion<'_>,
         front: Front,
-    ) -> Result<PathAnswer, AllocError> {
+    ) -> Result<PathAnswer, AllocError>
+        ensures { IsFrontOf self.now (place_of path.entry) path.entry.names.now front → IfOk result (λ answer. Means answer.meaning (PathStandsFor self.now (place_of path.entry) path.entry.namespace path.entry.names.now)) }
+    {
         let Some(name) = path.names.last() else {
             return Ok(PathAnswer {
                 meaning: self.base_meaning(path),
@@ -792,7 +991,9 @@ impl<'a> Space<'a> {
     }
 
     /// What a path without names stands for.
-    fn base_meaning(&self, path: PathQuestion<'_>) -> Meaning {
+    fn base_meaning(&self, path: PathQuestion<'_>) -> Meaning
+        ensures { Means result (PathStandsFor self.now (place_of path.entry) path.entry.namespace []) }
+    {
         if self.begins_outside(path.start, path.module) {
             return Meaning::Unknown;
         }
@@ -821,7 +1022,9 @@ impl<'a> Space<'a> {
         alloc: Global,
         outside: &mut OutsidePaths,
         path: PathQuestion<'_>,
-    ) -> Result<PathAnswer, AllocError> {
+    ) -> Result<PathAnswer, AllocError>
+        ensures { IfOk result (λ answer. Means answer.meaning (PathStandsFor self.now (place_of path.entry) path.entry.namespace path.entry.names.now)) }
+    {
         let front = self.front(alloc, outside, path)?;
         self.end(alloc, outside, path, front)
     }

@@ -1,0 +1,33 @@
+-- The segments of a path, read from the last one on.
+use Rattle.std.proofs.Common.{◌≡◌, ℕ, List, [], ◌∷◌, ◌++◌, Some, None, refl, sym, ap, ◌∙◌, subst, append_assoc}
+use Rattle.std.proofs.lemmas.List.{append-nil, reverse-append}
+use Rattle.std.specs.Prelude.{reverse}
+use Rattle.ssr_syntax_kinds.specs.declared.kinds.SyntaxKind.TheVariants as k
+use Rattle.ssr_syntax_tree.specs.Syntax.{Syntax}
+use Rattle.ssr_syntax_tree.specs.Places.{Node, parts_of}
+use Rattle.ide_ssr_resolved_rule.specs.Paths.{first_of_kind, last_name}
+use Rattle.ssr_names_items.specs.declared.names.Names.{Names}
+use Rattle.ssr_names_items.specs.declared.table.Name.{Name}
+use Rattle.ssr_names.specs.declared.code_paths.Segment.{Segment}
+use Rattle.ssr_names.specs.CodePaths.{AreSegments, IsSegment, segments_one, segments_more}
+
+module _ (names : Names) (stranger : Name) (tree : Syntax) (path at : Node) (found new : List Segment) (segment : Segment)
+    (added : new ≡ found ++ segment ∷ []) (is : IsSegment names stranger (last_name at.children) segment)
+    (so_far : (first : List Segment) → AreSegments names stranger tree at first → AreSegments names stranger tree path (first ++ reverse found)) where
+  turned : reverse new ≡ segment ∷ reverse found
+  turned = ap reverse added ∙ reverse-append found (segment ∷ [])
+
+  pub segments_on : (front : Node) → first_of_kind k.PATH (parts_of at) ≡ Some front → (first : List Segment) → AreSegments names stranger tree front first
+      → AreSegments names stranger tree path (first ++ reverse new)
+  segments_on front here first are =
+      let more = so_far (first ++ segment ∷ []) (segments_more at front first segment here are is) in
+      subst (AreSegments names stranger tree path) (append_assoc first (segment ∷ []) (reverse found) ∙ sym (ap (λ ss. first ++ ss) turned)) more
+
+  pub segments_end : first_of_kind k.PATH (parts_of at) ≡ None → AreSegments names stranger tree path (reverse new)
+  segments_end none =
+      subst (AreSegments names stranger tree path) (sym turned) (so_far (segment ∷ []) (segments_one at segment none is))
+
+-- before any is read
+pub segments_none : (names : Names) (stranger : Name) (tree : Syntax) (path : Node) (first : List Segment) → AreSegments names stranger tree path first
+    → AreSegments names stranger tree path (first ++ [])
+segments_none names stranger tree path first are = subst (AreSegments names stranger tree path) (sym (append-nil first)) are
