@@ -8,3 +8,4 @@ mod Settling
 mod Telling
 mod Spelling
 mod Copying
+mod WholePaths

@@ -1,8 +1,16 @@
 -- When imports are settled.
-use Rattle.std.proofs.Common.{◌≡◌, ℕ, ◌+◌, ◌-◌, ◌<◌, ◌≤◌, ◌⊎◌, inl, inr, Bool, true, false, List, length, slice_get, Some, None, refl, sym, ap, ◌∙◌, subst, arith}
+use Rattle.std.proofs.Common.{◌≡◌, ℕ, ◌+◌, ◌-◌, ◌<◌, ◌≤◌, ◌⊎◌, inl, inr, Bool, true, false, List, length, slice_get, All, Some, None, refl, sym, ap, ◌∙◌, subst, arith}
 use Rattle.std.proofs.lemmas.Bool.{cases_lt}
 use Rattle.std.proofs.lemmas.Option.{none-some, same_Some, slice_get_within}
+use Rattle.std.specs.Prelude.{replicate}
+use Rattle.std.proofs.lemmas.List.Elements.{All-replicate}
 use Rattle.ssr_names_items.specs.declared.table.ImportNo.{ImportNo}
+use Rattle.ssr_names_items.specs.declared.table.Namespace.{Namespace}
+use Rattle.ssr_names_items.specs.declared.table.Namespace.TheVariants as ns
+use Rattle.ssr_names.specs.declared.definitions.Definition.{Definition}
+use Rattle.ssr_names.specs.declared.definitions.Meaning.TheVariants as meaning
+use Rattle.ssr_names.specs.Lookup.{in_namespace}
+use Rattle.ssr_names.proofs.LookingUp.{all_at}
 use Rattle.ssr_names_items.specs.declared.table.Import.{Import}
 use Rattle.ssr_names.specs.declared.space.Answers.{Answers}
 use Rattle.ssr_names.specs.declared.space.Space.{Space}
@@ -46,3 +54,23 @@ settled_next at fn old new step more had = (more.0 ∙ had.0, all)
 -- what is answered twice is answered
 pub answered_on : (fn old new : Space) → IsAnswered fn old → IsAnswered old new → IsAnswered fn new
 answered_on fn old new first then = then ∙ ap (with_answers_of new) first
+
+-- ** What is unknown is settled.
+
+abbrev pub unknown : Answers
+unknown = record { as_type = meaning.Unknown; as_value = meaning.Unknown; as_macro = meaning.Unknown }
+
+pub unknown_nothing : (n : Namespace) (d : Definition) → in_namespace unknown n ≡ meaning.One d → ⊥
+unknown_nothing ns.Type d is = cc
+unknown_nothing ns.Value d is = cc
+unknown_nothing ns.Macro d is = cc
+
+pub settled_unknown : (space : Space) (count : ℕ) → space.answers.items ≡ replicate count unknown → IsSettled space
+settled_unknown space count all place row answers at held n d is =
+    let each = subst (All (λ (a : Answers). a ≡ unknown)) (sym all) (All-replicate (λ (a : Answers). a ≡ unknown) count unknown refl) in
+    let same : answers ≡ unknown = all_at (λ (a : Answers). a ≡ unknown) space.answers.items place answers each (sym held) in
+    absurd (unknown_nothing n d (subst (λ (a : Answers). in_namespace a n ≡ meaning.One d) same is))
+
+-- what was unknown stays so
+pub kept_unknown : (had found : Answers) → had ≡ unknown → KeepsTaken found had
+kept_unknown had found same n d is = absurd (unknown_nothing n d (subst (λ (a : Answers). in_namespace a n ≡ meaning.One d) same is))

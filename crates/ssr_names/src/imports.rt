@@ -1,6 +1,7 @@
 //! What the paths of imports stand for.
 
-ghost use Rattle.std.specs.Prelude.{ℕ, ◌≡◌, ◌+◌, ◌<◌, false, Some, IfOk, OnOk, slice_get};
+ghost use Rattle.std.specs.Prelude.{ℕ, ◌≡◌, ◌+◌, ◌<◌, true, false, Some, IfOk, OnOk, slice_get};
+ghost use Rattle.std.specs.Option.{option_copied};
 ghost use Rattle.ssr_names.specs.declared.space.Answers.{Answers};
 ghost use Rattle.ssr_names.specs.Private.Meanings.{Means};
 ghost use Rattle.ssr_names.specs.Lookup.{PathStandsFor};
@@ -12,7 +13,7 @@ use crate::definitions::Meaning;
 use crate::lookup::{Front, PathQuestion};
 use crate::outside::OutsidePaths;
 use crate::space::{Answers, Space};
-use ssr_names_items::{Brings, Import, ImportNo, Namespace};
+use ssr_names_items::{Brings, Import, ImportNo, Namespace, Table};
 use std::alloc::{AllocError, Global};
 
 /// How often all imports are gone over at most.
@@ -77,7 +78,21 @@ fn kept(had: Answers, found: Answers) -> Answers
     }
 }
 
-/// The import at a place; of places that no import can have all are one.
+/// The import of a table at a place.
+fn import_in<'a>(table: &'a Table, place: usize) -> Option<&'a Import>
+    ensures { option_copied result ≡ slice_get table.now.imports.items place }
+{
+    table.imports.get(place)
+}
+
+/// What the import at a place is taken to stand for.
+fn answers_at(space: &Space<'_>, place: usize) -> Option<Answers>
+    ensures { result ≡ slice_get space.now.answers.items place }
+{
+    space.answers.get(place).copied()
+}
+
+/// The number of the import at a place; of places that no import can have all are one.
 fn import_no(place: usize) -> ImportNo
     ensures { result ≡ import_no place }
 {
@@ -111,10 +126,10 @@ fn renew(
     ensures settled { IfOk result (λ is_new. is_new ≡ false → (space.new ≡ space.old) × IsSettledAt space.old place) }
 {
     let table = space.table;
-    let Some(import) = table.imports.get(place) else {
+    let Some(import) = import_in(table, place) else {
         return Ok(false);
     };
-    let Some(had) = space.answers.get(place).copied() else {
+    let Some(had) = answers_at(space, place) else {
         return Ok(false);
     };
     let found = answers_of(alloc, space, outside, import_no(place), import)?;
@@ -175,10 +190,10 @@ fn doubt(
     ensures settled { IfOk result (λ is_new. is_new ≡ false → (space.new ≡ space.old) × IsSettledAt space.old place) }
 {
     let table = space.table;
-    let Some(import) = table.imports.get(place) else {
+    let Some(import) = import_in(table, place) else {
         return Ok(false);
     };
-    let Some(had) = space.answers.get(place).copied() else {
+    let Some(had) = answers_at(space, place) else {
         return Ok(false);
     };
     let found = answers_of(alloc, space, outside, import_no(place), import)?;
@@ -205,7 +220,68 @@ fn doubt_unsettled(
     Ok(is_changed)
 }
 
-/// Finds what each import's path stands for: nothing at first, and then in passes, in turn forward and backward, until nothing changes. After 64 passes what
+/// Goes over all imports once more; whether some stands for something else than before, or has no answer.
+fn go_on(
+    alloc: Global,
+    space: &mut Space<'_>,
+    outside: &mut OutsidePaths,
+    is_backward: bool,
+) -> Result<bool, AllocError>
+    ensures answered { OnOk result (IsAnswered space.old space.new) }
+    ensures settled { IfOk result (λ is_changed. is_changed ≡ false → IsSettled space.new) }
+{
+    if pass(alloc, space, outside, is_backward)? {
+        return Ok(true);
+    }
+    Ok(doubt_unanswered(space))
+}
+
+/// Goes over all imports in passes, in turn forward and backward, until nothing changes; whether that came to an end.
+fn settle_in_passes(
+    alloc: Global,
+    space: &mut Space<'_>,
+    outside: &mut OutsidePaths,
+) -> Result<bool, AllocError>
+    ensures answered { OnOk result (IsAnswered space.old space.new) }
+    ensures settled { IfOk result (λ is_settled. is_settled ≡ true → IsSettled space.new) }
+{
+    for number in 0..MOST_PASSES {
+        let is_backward = number % 2 == 1;
+        if !go_on(alloc, space, outside, is_backward)? {
+            return Ok(true);
+        }
+    }
+    Ok(false)
+}
+
+/// Takes imports as unknown until each is what its path stands for; whether that came to an end.
+fn settle_by_doubt(
+    alloc: Global,
+    space: &mut Space<'_>,
+    outside: &mut OutsidePaths,
+) -> Result<bool, AllocError>
+    ensures answered { OnOk result (IsAnswered space.old space.new) }
+    ensures settled { IfOk result (λ is_settled. is_settled ≡ true → IsSettled space.new) }
+{
+    for _ in 0..MOST_PASSES {
+        if !doubt_unsettled(alloc, space, outside)? {
+            return Ok(true);
+        }
+    }
+    Ok(false)
+}
+
+/// Takes all imports as unknown.
+fn doubt_all(alloc: Global, space: &mut Space<'_>) -> Result<(), AllocError>
+    ensures answered { OnOk result (IsAnswered space.old space.new) }
+    ensures settled { OnOk result (IsSettled space.new) }
+{
+    let unknown = Answers::all(Meaning::Unknown);
+    space.answers = vec![in alloc; unknown; space.answers.len()]?;
+    Ok(())
+}
+
+/// Finds what each import's path stands for: nothing at first, and then in passes until nothing changes. After 64 passes what
 /// isn't settled is unknown.
 pub(crate) fn settle(
     alloc: Global,
@@ -215,18 +291,11 @@ pub(crate) fn settle(
     ensures answered { OnOk result (IsAnswered space.old space.new) }
     ensures settled { OnOk result (IsSettled space.new) }
 {
-    for number in 0..MOST_PASSES {
-        let is_backward = number % 2 == 1;
-        if !pass(alloc, space, outside, is_backward)? && !doubt_unanswered(space) {
-            return Ok(());
-        }
+    if settle_in_passes(alloc, space, outside)? {
+        return Ok(());
     }
-    for _ in 0..MOST_PASSES {
-        if !doubt_unsettled(alloc, space, outside)? {
-            return Ok(());
-        }
+    if settle_by_doubt(alloc, space, outside)? {
+        return Ok(());
     }
-    let unknown = Answers::all(Meaning::Unknown);
-    space.answers = vec![in alloc; unknown; space.answers.len()]?;
-    Ok(())
+    doubt_all(alloc, space)
 }

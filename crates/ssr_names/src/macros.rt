@@ -1,6 +1,6 @@
 //! What the names of macros stand for.
 
-ghost use Rattle.std.specs.Prelude.{◌≡◌, IfOk};
+ghost use Rattle.std.specs.Prelude.{◌≡◌, ◌⊎◌, [], ◌∷◌, IfOk, IfSome};
 ghost use Rattle.ssr_names.specs.Private.Meanings.{Means};
 ghost use Rattle.ssr_names.specs.Lookup.{IsOutside};
 ghost use Rattle.ssr_names.specs.Private.Answered.{place_of};
@@ -208,33 +208,89 @@ impl<'a> Space<'a> {
     ) -> Result<PathAnswer, AllocError>
         ensures { IfOk result (λ answer. Means answer.meaning (WholeStandsFor self.now (place_of path.entry) path.entry.namespace path.entry.names.now)) }
     {
-        if let (Start::Plain, Namespace::Macro, [name]) = (path.start, path.namespace, path.names) {
-            return Ok(PathAnswer {
-                meaning: self.macro_named(alloc, outside, path, *name)?,
-                name: Some(*name),
-            });
+        match lone_macro(path) {
+            Some(name) => self.macro_answer(alloc, outside, path, name),
+            None => self.typed_path(alloc, outside, path),
         }
-        let answer = self.path(alloc, outside, path)?;
-        if path.namespace != Namespace::Type {
-            return Ok(answer);
-        }
+    }
+
+    /// What a macro's name alone stands for, and the name.
+    fn macro_answer(
+        &self,
+        alloc: Global,
+        outside: &mut OutsidePaths,
+        path: PathQuestion<'_>,
+        name: Name,
+    ) -> Result<PathAnswer, AllocError>
+        ensures { IfOk result (λ answer. Means answer.meaning (IsMacro self.now path.entry name)) }
+    {
+        let meaning = self.macro_named(alloc, outside, path, name)?;
         Ok(PathAnswer {
-            meaning: self.as_type(outside, answer.meaning),
-            ..answer
+            meaning,
+            name: Some(name),
         })
     }
 
-    /// What stands for a type where a definition does.
+    /// What a path stands for, where a type is wanted what stands for a type.
+    fn typed_path(
+        &self,
+        alloc: Global,
+        outside: &mut OutsidePaths,
+        path: PathQuestion<'_>,
+    ) -> Result<PathAnswer, AllocError>
+        ensures { IfOk result (λ answer. Means answer.meaning (WholeStandsFor self.now (place_of path.entry) path.entry.namespace path.entry.names.now)) }
+    {
+        let answer = self.path(alloc, outside, path)?;
+        match path.namespace {
+            Namespace::Type => Ok(PathAnswer {
+                meaning: self.as_type(outside, answer.meaning),
+                ..answer
+            }),
+            _ => Ok(answer),
+        }
+    }
+
+    /// What stands for a type where a meaning does.
     pub(crate) fn as_type(&self, outside: &OutsidePaths, meaning: Meaning) -> Meaning
         ensures { Means result (IsAsType meaning) }
     {
         match meaning {
-            Meaning::One(Definition::Outside(path)) => match self.type_of_module(outside, path) {
-                Some(builtin) => Meaning::One(Definition::Outside(builtin)),
-                None => meaning,
-            },
+            Meaning::One(definition) => Meaning::One(self.type_for(outside, definition)),
             _ => meaning,
         }
+    }
+
+    /// What stands for a type where a definition does.
+    fn type_for(&self, outside: &OutsidePaths, definition: Definition) -> Definition
+        ensures { (result ≡ definition) ⊎ (IsOutside definition × IsOutside result) }
+    {
+        match definition {
+            Definition::Outside(path) => match self.type_of_module(outside, path) {
+                Some(builtin) => Definition::Outside(builtin),
+                None => definition,
+            },
+            _ => definition,
+        }
+    }
+}
+
+/// The name of a macro that a path is alone.
+fn lone_macro(path: PathQuestion<'_>) -> Option<Name>
+    ensures { IfSome result (λ name. (path.entry.start ≡ Start.Plain) × (path.entry.namespace ≡ Namespace.Macro) × (path.entry.names.now ≡ name ∷ [])) }
+{
+    match (path.start, path.namespace) {
+        (Start::Plain, Namespace::Macro) => only_name(path.names),
+        _ => None,
+    }
+}
+
+/// The one name of these.
+fn only_name(names: &[Name]) -> Option<Name>
+    ensures { IfSome result (λ name. names.now ≡ name ∷ []) }
+{
+    match names.last() {
+        Some(name) if names.len() == 1 => Some(*name),
+        _ => None,
     }
 }
 
