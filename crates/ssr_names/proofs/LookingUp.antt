@@ -1,14 +1,12 @@
 -- What is found among entries, what comes in by `*`, and what blocks have around them.
-use Rattle.std.proofs.Common.{◌≡◌, ℕ, zero, suc, ◌+◌, ◌-◌, ◌<◌, ◌≤◌, Bool, true, false, ◌&&◌, true≢false, List, [], ◌∷◌, ◌++◌, length, take, drop, get_or, slice_get, Contains, All, Option, Some, None, refl, sym, ap, ◌∙◌, subst, inl, inr, ◌⊎◌, ltb-true, arith, add-one, length-take, length-drop, get_or-take, get_or-drop}
+use Rattle.std.proofs.Common.{◌≡◌, ℕ, ◌+◌, ◌-◌, ◌<◌, ◌≤◌, Bool, true, false, ◌&&◌, true≢false, List, [], ◌∷◌, ◌++◌, length, take, drop, get_or, slice_get, Contains, All, Some, refl, sym, ap, ◌∙◌, subst, inl, inr, ◌⊎◌, arith, add-one, length-take, length-drop, get_or-take, get_or-drop}
 use Rattle.std.proofs.Math.Seq.{take-suc}
 use Rattle.std.proofs.lemmas.Bool.Decides.{nat_tests}
 use Rattle.std.proofs.lemmas.List.Elements.{All-take, All-drop, All-same, All-push, All-contains, All-contains_itself, Contains-append_left, Contains-push}
-use Rattle.std.proofs.lemmas.Option.{none-some, same_Some, slice_get_within, get_or_from_slice_get}
+use Rattle.std.proofs.lemmas.Option.{same_Some, slice_get_within, get_or_from_slice_get}
 use Rattle.std.specs.List.Sorted.{IsNonDecreasingBy, IsPartitionedBy, IsPartitionPoint}
-use Rattle.std.specs.Prelude.{not, nat_lt}
-use Rattle.ssr_names_items.specs.declared.table.Name.{Name}
+use Rattle.std.specs.Prelude.{not}
 use Rattle.ssr_names_items.specs.declared.table.ModuleNo.{ModuleNo}
-use Rattle.ssr_names_items.specs.declared.table.ItemNo.{ItemNo}
 use Rattle.ssr_names_items.specs.declared.table.ImportNo.{ImportNo}
 use Rattle.ssr_names_items.specs.declared.table.Thing.{Thing}
 use Rattle.ssr_names_items.specs.declared.table.Thing.TheVariants as things
@@ -19,7 +17,7 @@ use Rattle.ssr_names.specs.declared.definitions.Meaning.TheVariants as meanings
 use Rattle.ssr_names.specs.declared.lookup.Question.{Question}
 use Rattle.ssr_names.specs.declared.lookup.Found.{Found}
 use Rattle.ssr_names.specs.declared.space.Space.{Space}
-use Rattle.ssr_names.specs.Lookup.{rank_of, Counts, IsDeclared, IsAbove, IsAmong, Finds, IsEverywhere, IsNothing, IsAroundBlock, IsFree, IsOrdered, IsOutermost, IsTop, IsWithin, StandsFor, module_at, within_itself, within_below, found_here, found_around, found_everywhere, has_declared, has_brought, Reaches}
+use Rattle.ssr_names.specs.Lookup.{rank_of, Counts, IsDeclared, IsAbove, IsAmong, Finds, IsEverywhere, IsNothing, IsAroundBlock, IsFree, IsOrdered, IsOutermost, IsTop, IsWithin, within_itself, within_below, found_here, found_around, found_everywhere, has_declared, has_brought, Reaches}
 use Rattle.ssr_names.specs.Private.Answered.{is_before, is_behind, is_declared, is_import, IsRanked, HasSure, IsBrought, IsBroughtIn, IsDeclaredAs, IsUnread, IsFoundAmong, IsInModule, IsSurelyAround, surely_here, surely_declared, surely_brought}
 use Rattle.ssr_names_items.specs.declared.table.Namespace.TheVariants as ns
 use Rattle.ssr_names_items.specs.declared.table.Visibility.TheVariants as visible

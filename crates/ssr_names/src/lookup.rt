@@ -1,25 +1,16 @@
-//! What names and paths stand for where they are written.
+//! What names stand for where they are written.
 
-ghost use Rattle.std.specs.Prelude.{◌≡◌, ◌⊎◌, true, false, Some, List, [], ◌∷◌, ◌++◌, slice_get, All, Contains, IfOk, IfSome, OnOk};
-ghost use Rattle.ssr_names_items.specs.declared.table.ImportNo.{ImportNo};
-ghost use Rattle.ssr_names_items.specs.declared.table.ModuleNo.{ModuleNo};
-ghost use Rattle.ssr_names_items.specs.declared.table.Name.{Name};
-ghost use Rattle.ssr_names.specs.declared.lookup.Question.{Question};
+ghost use Rattle.std.specs.Prelude.{◌≡◌, ◌⊎◌, true, false, Some, IfOk};
 ghost use Rattle.ssr_names.specs.Private.Meanings.{Means, is_something};
-ghost use Rattle.ssr_names.specs.Lookup.{Begins, Counts, Finds, IsAsked, IsBase, IsBehind, IsEverywhere, IsGlob, IsInRoot, IsNothing, IsOfBuiltin, IsOfCrate, IsOrdered, IsOutside, IsUnaliased, IsUp, IsVariant, IsVoid, PathStandsFor, Reaches, StandsFor};
-ghost use Rattle.ssr_names.specs.Private.Answered.{IsAround, IsBrought, IsBroughtIn, IsDeclaredAs, IsFoundAmong, IsFront, IsFrontOf, IsInModule, IsUnread, is_declared, is_import, place_of};
+ghost use Rattle.ssr_names.specs.Lookup.{Counts, IsAsked, IsNothing, IsOrdered, IsVoid, StandsFor};
+ghost use Rattle.ssr_names.specs.Private.Answered.{IsAround, IsDeclaredAs, IsFoundAmong, IsInModule, IsUnread, is_declared, is_import};
 ghost use Rattle.ssr_names.specs.Private.Found.{Adds, Hides, Joins, found_of};
 
-use crate::definitions::{Definition, Meaning, OutsideNo};
+use crate::definitions::{Definition, Meaning};
 use crate::outside::OutsidePaths;
-use crate::space::{Member, Space, between, is_same};
-use crate::std_names::{brought_by_glob, is_builtin_type, is_in_type_module};
-use ssr_names_items::{
-    Brings, Edition, Entry, ImportNo, ItemKind, ItemNo, ModuleKind, ModuleNo, Name, Namespace,
-    Owner, Start, Thing,
-};
+use crate::space::{Member, Space, is_same};
+use ssr_names_items::{Entry, ImportNo, ItemKind, ItemNo, ModuleNo, Name, Namespace, Start, Thing};
 use std::alloc::{AllocError, Global};
-use std::collections::BTreeSet;
 
 /// What is looked up.
 #[derive(Clone, Copy)]
@@ -45,7 +36,7 @@ impl Found {
         is_sure: false,
     };
 
-    fn of(meaning: Meaning, is_sure: bool) -> Found
+    pub(crate) fn of(meaning: Meaning, is_sure: bool) -> Found
         ensures { result ≡ found_of meaning is_sure }
     {
         Found {
@@ -72,7 +63,7 @@ impl Found {
     }
 
     /// What is known where both count.
-    fn join(self, other: Found) -> Found
+    pub(crate) fn join(self, other: Found) -> Found
         ensures { Joins self other result }
     {
         Found {
@@ -110,47 +101,6 @@ pub(crate) enum Front {
     Ended(PathAnswer),
 }
 
-/// A name of a path, and the namespace that it is looked up in.
-#[derive(Clone, Copy)]
-struct Step {
-    name: Name,
-    namespace: Namespace,
-}
-
-/// Modules whose names come in by `*`, in the order in which they are looked at.
-#[derive(Drop)]
-struct GlobWalk {
-    imports: Vec<ImportNo>,
-    seen: BTreeSet<ImportNo>,
-}
-
-impl GlobWalk {
-    fn new(alloc: Global) -> GlobWalk
-        ensures { result.imports.items ≡ [] }
-    {
-        GlobWalk {
-            imports: Vec::new(alloc),
-            seen: BTreeSet::new(alloc),
-        }
-    }
-
-    /// The import at a place.
-    fn at(&self, place: usize) -> Option<ImportNo>
-        ensures { result ≡ slice_get self.now.imports.items place }
-    {
-        self.imports.get(place).copied()
-    }
-
-    fn add(&mut self, import: ImportNo) -> Result<(), AllocError>
-        ensures { OnOk result ((self.new.imports.items ≡ self.old.imports.items) ⊎ (self.new.imports.items ≡ self.old.imports.items ++ import ∷ [])) }
-    {
-        if self.seen.insert(import)? {
-            self.imports.push(import)?;
-        }
-        Ok(())
-    }
-}
-
 /// Whether an entry is an import.
 fn is_import(thing: Thing) -> bool
     ensures { result ≡ is_import thing }
@@ -170,7 +120,7 @@ fn is_skipped(thing: Thing, skipped: Option<ImportNo>) -> bool
 }
 
 /// Whether an import is the one that is left out.
-fn is_left_out(skipped: Option<ImportNo>, import: ImportNo) -> bool
+pub(crate) fn is_left_out(skipped: Option<ImportNo>, import: ImportNo) -> bool
     ensures out { result ≡ true → skipped ≡ Some import }
     ensures asked { result ≡ false → ¬ (skipped ≡ Some import) }
 {
@@ -181,7 +131,7 @@ fn is_left_out(skipped: Option<ImportNo>, import: ImportNo) -> bool
 }
 
 /// Whether a member is one of an item with a name.
-fn is_member(member: &Member, item: ItemNo, name: Name) -> bool
+pub(crate) fn is_member(member: &Member, item: ItemNo, name: Name) -> bool
     ensures { result ≡ true → (member.now.of ≡ item) × (member.now.name ≡ name) }
 {
     member.of.0 == item.0 && member.name.0 == name.0
@@ -196,12 +146,12 @@ impl<'a> Space<'a> {
     }
 
     /// Whether nothing that comes in by `*` can hide a name: it is never hidden by what isn't read, and nothing that is read has it.
-    fn comes_by_no_glob(&self, question: Question) -> bool {
+    pub(crate) fn comes_by_no_glob(&self, question: Question) -> bool {
         self.is_never_hidden(question) && self.type_names.binary_search(&question.name).is_err()
     }
 
     /// What an unread name may be.
-    fn unread(&self, question: Question) -> Found
+    pub(crate) fn unread(&self, question: Question) -> Found
         ensures { IsUnread result }
     {
         if self.is_never_hidden(question) {
@@ -212,7 +162,7 @@ impl<'a> Space<'a> {
     }
 
     /// What a name that isn't found in a module may be.
-    fn if_open(&self, module: ModuleNo, question: Question) -> Found
+    pub(crate) fn if_open(&self, module: ModuleNo, question: Question) -> Found
         ensures { IsUnread result }
     {
         match self.module(module) {
@@ -331,7 +281,7 @@ impl<'a> Space<'a> {
 
     /// What a module has under a name but for what comes in by `*`. An item that is there in each configuration leaves no room
     /// for an import.
-    fn explicit(&self, module: ModuleNo, question: Question) -> Found
+    pub(crate) fn explicit(&self, module: ModuleNo, question: Question) -> Found
         ensures { IsDeclaredAs self.now «module» question result }
     {
         let entries = self.entries(module, question.name);
@@ -342,205 +292,8 @@ impl<'a> Space<'a> {
         declared.join(self.imported(module, entries, question))
     }
 
-    /// Adds the imports by `*` of a module that a viewer sees.
-    fn add_globs(
-        &self,
-        walk: &mut GlobWalk,
-        module: ModuleNo,
-        question: Question,
-    ) -> Result<(), AllocError>
-        ensures { (root : ModuleNo) (asked : Question) → All (Reaches self.now root asked) walk.old.imports.items → ((i : ImportNo) → IsGlob self.now «module» question i → Reaches self.now root asked i) → OnOk result (All (Reaches self.now root asked) walk.new.imports.items) }
-    {
-        for glob in self.globs_of(module) {
-            if !self.is_glob(module, glob.import, question) {
-                continue;
-            }
-            walk.add(glob.import)?;
-        }
-        Ok(())
-    }
-
-    /// Whether an import brings all into a module, the viewer sees it, and it isn't what is left out.
-    fn is_glob(&self, module: ModuleNo, number: ImportNo, question: Question) -> bool
-        ensures { result ≡ true → IsGlob self.now «module» question number }
-    {
-        let Some(import) = self.import(number) else {
-            return false;
-        };
-        if !is_same(import.module, module) {
-            return false;
-        }
-        if is_left_out(question.skipped, number) {
-            return false;
-        }
-        match import.brings {
-            Brings::Glob => self.is_seen(import.visibility, question.viewer),
-            _ => false,
-        }
-    }
-
-    /// What a name is that comes in by `*`.
-    fn from_globs(
-        &self,
-        alloc: Global,
-        outside: &mut OutsidePaths,
-        module: ModuleNo,
-        question: Question,
-    ) -> Result<Found, AllocError>
-        ensures { IfOk result (IsBroughtIn self.now «module» question) }
-    {
-        let mut found = self.if_open(module, question);
-        if self.globs_of(module).is_empty() || self.comes_by_no_glob(question) {
-            return Ok(found);
-        }
-        let mut walk = GlobWalk::new(alloc);
-        self.add_globs(&mut walk, module, question)?;
-        for place in 0..self.globs.len() {
-            let Some(import) = walk.at(place) else {
-                break;
-            };
-            let brought = self.brought(outside, &mut walk, import, question)?;
-            found = found.join(brought);
-        }
-        Ok(found)
-    }
-
-    /// What an import by `*` brings in under a name. The imports by `*` of a module that it brings in are looked at later.
-    fn brought(
-        &self,
-        outside: &mut OutsidePaths,
-        walk: &mut GlobWalk,
-        number: ImportNo,
-        question: Question,
-    ) -> Result<Found, AllocError>
-        ensures brought { IfOk result (IsBrought self.now question number) }
-        ensures reached { (root : ModuleNo) → All (Reaches self.now root question) walk.old.imports.items → Reaches self.now root question number → OnOk result (All (Reaches self.now root question) walk.new.imports.items) }
-    {
-        let Some(import) = self.import(number) else {
-            return Ok(Found::NOTHING);
-        };
-        let is_sure = import.is_sure;
-        let seen_here = Question {
-            viewer: import.module,
-            ..question
-        };
-        match self.answer(number, Namespace::Type) {
-            Meaning::Nothing => Ok(Found::NOTHING),
-            Meaning::Unknown => Ok(self.unread(question)),
-            Meaning::One(Definition::Module(module)) => {
-                let explicit = self.explicit(module, seen_here);
-                if explicit.is_sure {
-                    return Ok(Found::of(explicit.meaning, is_sure));
-                }
-                if self.hides_globs(module, seen_here) {
-                    return Ok(self.unread(question));
-                }
-                self.add_globs(walk, module, seen_here)?;
-                let found = explicit.join(self.if_open(module, seen_here));
-                Ok(Found::of(found.meaning, false))
-            }
-            Meaning::One(Definition::Item(item)) if !self.has_variants(item) => {
-                Ok(self.unread(question))
-            }
-            Meaning::One(Definition::Item(item)) => {
-                let meaning = self.variant(item, question.name);
-                Ok(Found::of(meaning, is_sure && !self.is_unsure_variant(meaning)))
-            }
-            Meaning::One(Definition::Outside(path)) => {
-                let meaning = self.outside_glob(outside, path, question)?;
-                Ok(Found::of(meaning, is_sure))
-            }
-            Meaning::One(Definition::Member(_, _)) => Ok(self.unread(question)),
-        }
-    }
-
-    /// Whether a module has something under a name that isn't seen, which hides what comes in by `*` there.
-    fn hides_globs(&self, module: ModuleNo, question: Question) -> bool {
-        !self.globs_of(module).is_empty()
-            && self.entries(module, question.name).iter().any(|entry| entry.namespace
-                == question.namespace
-                && !self.is_seen(entry.visibility, question.viewer))
-    }
-
-    /// Whether a meaning is a variant that isn't there in each configuration.
-    fn is_unsure_variant(&self, meaning: Meaning) -> bool {
-        match meaning {
-            Meaning::One(Definition::Item(item)) => {
-                self.unsure_variants.binary_search(&item).is_ok()
-            }
-            _ => false,
-        }
-    }
-
-    /// Whether an item has variants that are read: those of an enum that a macro declares aren't.
-    fn has_variants(&self, item: ItemNo) -> bool {
-        let first = self.members.partition_point(|member| member.of < item);
-        let past = self.members.partition_point(|member| member.of <= item);
-        between(&self.members, first, past).iter().any(|member| self.kind_of(member.item)
-            == Some(ItemKind::Variant))
-    }
-
-    /// The variant of an enum with a name.
-    fn variant(&self, item: ItemNo, name: Name) -> Meaning
-        ensures { Means result (IsVariant self.now item name) }
-    {
-        match self.members_of(item, name).first() {
-            Some(member)
-                if is_member(member, item, name)
-                    && self.kind_of(member.item) == Some(ItemKind::Variant) => {
-                Meaning::One(Definition::Item(self.first_item(member.item)))
-            }
-            _ => Meaning::Nothing,
-        }
-    }
-
-    fn kind_of(&self, item: ItemNo) -> Option<ItemKind> {
+    pub(crate) fn kind_of(&self, item: ItemNo) -> Option<ItemKind> {
         Some(self.item(item)?.kind)
-    }
-
-    /// What `*` brings in under a name of a path that isn't read.
-    fn outside_glob(
-        &self,
-        outside: &mut OutsidePaths,
-        path: OutsideNo,
-        question: Question,
-    ) -> Result<Meaning, AllocError>
-        ensures { IfOk result (λ found. Means found IsOutside) }
-    {
-        let unread = self.unread(question).meaning;
-        let Some(row) = outside.path(path) else {
-            return Ok(unread);
-        };
-        let Some(parent) = row.parent else {
-            return Ok(unread);
-        };
-        let Some(above) = outside.path(parent) else {
-            return Ok(unread);
-        };
-        let is_in_std = above.parent.is_none() == (parent == self.std)
-            && self.is_in_std(outside, parent);
-        let Some(names) = brought_by_glob(self.text(above.name), self.text(row.name)) else {
-            return Ok(unread);
-        };
-        if !is_in_std {
-            return Ok(unread);
-        }
-        if !names.contains(&self.text(question.name)) {
-            return Ok(Meaning::Nothing);
-        }
-        let number = outside.child(Some(path), question.name)?;
-        Ok(Meaning::One(Definition::Outside(number)))
-    }
-
-    /// Whether a path is the standard library, or one of its modules.
-    fn is_in_std(&self, outside: &OutsidePaths, path: OutsideNo) -> bool {
-        if path == self.std {
-            return true;
-        }
-        match outside.path(path) {
-            Some(row) => row.parent == Some(self.std),
-            None => false,
-        }
     }
 
     /// Whether nothing that is found behind this can be meant.
@@ -607,425 +360,5 @@ impl<'a> Space<'a> {
             at = up;
         }
         Ok(found)
-    }
-
-    /// The crate of a name.
-    fn as_crate(&self, question: Question) -> Meaning
-        ensures { Means result (IsOfCrate self.now question) }
-    {
-        match self.crate_named(question.name) {
-            Some(definition) if question.namespace == Namespace::Type => Meaning::One(definition),
-            _ => Meaning::Nothing,
-        }
-    }
-
-    /// The builtin type of a name.
-    fn as_builtin(&self, question: Question) -> Meaning
-        ensures { Means result (IsOfBuiltin self.now question) }
-    {
-        match self.builtin_type(question.name) {
-            Some(definition) if question.namespace == Namespace::Type => Meaning::One(definition),
-            _ => Meaning::Nothing,
-        }
-    }
-
-    /// What a name stands for that nothing around has: a crate, what the prelude has, a builtin type.
-    pub(crate) fn everywhere(
-        &self,
-        outside: &mut OutsidePaths,
-        module: ModuleNo,
-        question: Question,
-    ) -> Result<Meaning, AllocError>
-        ensures { IfOk result (λ found. Means found (IsEverywhere self.now question)) }
-    {
-        let as_crate = self.as_crate(question);
-        if as_crate.is_something() {
-            return Ok(as_crate);
-        }
-        let prelude = self.prelude(outside, module, question.name, question.namespace)?;
-        if prelude.is_something() {
-            return Ok(prelude);
-        }
-        Ok(self.as_builtin(question))
-    }
-
-    /// What the first name of a path stands for, where that begins with a name. An import of the first edition begins in the
-    /// root; where the edition isn't known, both have to agree.
-    fn first_name(
-        &self,
-        alloc: Global,
-        outside: &mut OutsidePaths,
-        module: ModuleNo,
-        question: Question,
-        is_import: bool,
-    ) -> Result<Meaning, AllocError>
-        ensures { IfOk result (λ found. Means found (λ d. Finds self.now question «module» d ⊎ ((is_import ≡ true) × IsInRoot self.now «module» question d))) }
-    {
-        let edition = self.edition(module);
-        if is_import && edition == Some(Edition::Edition2015) {
-            return self.from_root(alloc, outside, module, question);
-        }
-        let around = self.from_here(alloc, outside, module, question)?;
-        if !is_import || edition.is_some() {
-            return Ok(around);
-        }
-        let root = self.from_root(alloc, outside, module, question)?;
-        if root == around {
-            Ok(around)
-        } else {
-            Ok(Meaning::Unknown)
-        }
-    }
-
-    /// What a name stands for that is looked up outward, and then where names are known everywhere.
-    fn from_here(
-        &self,
-        alloc: Global,
-        outside: &mut OutsidePaths,
-        module: ModuleNo,
-        question: Question,
-    ) -> Result<Meaning, AllocError>
-        ensures { IfOk result (λ found. Means found (Finds self.now question «module»)) }
-    {
-        let around = self.outward(alloc, outside, module, question)?;
-        if around.is_sure {
-            return Ok(around.meaning);
-        }
-        let everywhere = self.everywhere(outside, module, question)?;
-        Ok(around.meaning.join(everywhere))
-    }
-
-    /// What a name stands for that is looked up in the root, and then among crates.
-    fn from_root(
-        &self,
-        alloc: Global,
-        outside: &mut OutsidePaths,
-        module: ModuleNo,
-        question: Question,
-    ) -> Result<Meaning, AllocError>
-        ensures { IfOk result (λ found. Means found (IsInRoot self.now «module» question)) }
-    {
-        let root = self.in_module(alloc, outside, self.root_of(module), question)?;
-        if root.is_sure {
-            return Ok(root.meaning);
-        }
-        Ok(root.meaning.join(self.as_crate(question)))
-    }
-
-    /// What a name behind `::` at the beginning stands for.
-    fn global_name(
-        &self,
-        alloc: Global,
-        outside: &mut OutsidePaths,
-        module: ModuleNo,
-        question: Question,
-    ) -> Result<Meaning, AllocError>
-        ensures { IfOk result (λ found. Means found (λ d. IsInRoot self.now «module» question d ⊎ IsOfCrate self.now question d)) }
-    {
-        match self.edition(module) {
-            Some(Edition::Edition2015) => self.from_root(alloc, outside, module, question),
-            Some(_) => Ok(self.as_crate(question)),
-            None => Ok(Meaning::Unknown),
-        }
-    }
-
-    /// What a name behind a type stands for: its variant, its one associated item, or what has that name.
-    fn behind_item(&self, item: ItemNo, name: Name) -> Meaning
-        ensures { Means result (λ d. IsVariant self.now item name d ⊎ (d ≡ Definition.Member item name)) }
-    {
-        let Some(row) = self.item(item) else {
-            return Meaning::Unknown;
-        };
-        match row.kind {
-            ItemKind::Struct | ItemKind::Enum | ItemKind::Union | ItemKind::Trait => {
-                match self.members_of(item, name) {
-                    [member] if is_member(member, item, name) => {
-                        Meaning::One(Definition::Item(self.first_item(member.item)))
-                    }
-                    _ => Meaning::One(Definition::Member(item, name)),
-                }
-            }
-            ItemKind::TypeAlias => Meaning::Unknown,
-            _ => Meaning::Nothing,
-        }
-    }
-
-    /// What a definition is, where that is a type alias what it is an alias of.
-    pub(crate) fn unaliased(&self, definition: Definition) -> Meaning
-        ensures { Means result (IsUnaliased self.now definition) }
-    {
-        match definition {
-            Definition::Item(item) => match self.item(item) {
-                Some(row) if row.kind == ItemKind::TypeAlias && row.owner == Owner::Module => {
-                    self.aliased(item)
-                }
-                _ => Meaning::One(definition),
-            },
-            _ => Meaning::One(definition),
-        }
-    }
-
-    /// What a name behind a path that isn't read stands for.
-    fn behind_outside(
-        &self,
-        outside: &mut OutsidePaths,
-        path: OutsideNo,
-        name: Name,
-    ) -> Result<Meaning, AllocError>
-        ensures { IfOk result (λ found. Means found IsOutside) }
-    {
-        let parent = match self.type_of_module(outside, path) {
-            Some(builtin) if !is_in_type_module(self.text(name)) => builtin,
-            _ => path,
-        };
-        let number = outside.child(Some(parent), name)?;
-        Ok(Meaning::One(Definition::Outside(number)))
-    }
-
-    /// The builtin type that a module of the standard library is named as.
-    pub(crate) fn type_of_module(
-        &self,
-        outside: &OutsidePaths,
-        path: OutsideNo,
-    ) -> Option<OutsideNo> {
-        let row = outside.path(path)?;
-        if row.parent != Some(self.std) || !is_builtin_type(self.text(row.name)) {
-            return None;
-        }
-        match self.builtin_type(row.name) {
-            Some(Definition::Outside(number)) => Some(number),
-            _ => None,
-        }
-    }
-
-    /// What a name behind a definition stands for.
-    pub(crate) fn behind(
-        &self,
-        alloc: Global,
-        outside: &mut OutsidePaths,
-        definition: Definition,
-        question: Question,
-    ) -> Result<Meaning, AllocError>
-        ensures { IfOk result (λ found. Means found (IsBehind self.now question definition)) }
-    {
-        let Meaning::One(plain) = self.unaliased(definition) else {
-            return Ok(Meaning::Unknown);
-        };
-        match plain {
-            Definition::Module(module) => {
-                let found = self.in_module(alloc, outside, module, question)?;
-                Ok(found.meaning)
-            }
-            Definition::Item(item) => Ok(self.behind_item(item, question.name)),
-            Definition::Outside(path) => self.behind_outside(outside, path, question.name),
-            Definition::Member(_, _) => Ok(Meaning::Unknown),
-        }
-    }
-
-    /// The module that a path begins in, where it doesn't begin with a name.
-    fn base(&self, start: Start, module: ModuleNo) -> Option<ModuleNo>
-        ensures { IfSome result (IsBase self.now «module» start) }
-    {
-        match start {
-            Start::Plain | Start::Global => None,
-            Start::Crate => Some(self.root_of(module)),
-            Start::SelfModule => Some(self.plain_module(module)),
-            Start::Super(count) => self.module_up(self.plain_module(module), count),
-        }
-    }
-
-    /// The module so many levels up.
-    fn module_up(&self, module: ModuleNo, count: u32) -> Option<ModuleNo>
-        ensures { IfSome result (IsUp self.now count «module») }
-    {
-        let mut at = module;
-        for step in 0..count {
-            at = self.parent_module(at)?;
-        }
-        Some(at)
-    }
-
-    /// Whether a path begins outside of a file of which no crate is known: at the root of its crate, or above its own module.
-    fn begins_outside(&self, start: Start, module: ModuleNo) -> bool {
-        let is_stray = match self.module(self.root_of(module)) {
-            Some(root) => root.kind == ModuleKind::Stray,
-            None => true,
-        };
-        match start {
-            Start::Crate => is_stray,
-            Start::Super(_) => is_stray && self.base(start, module).is_none(),
-            _ => false,
-        }
-    }
-
-    /// What the first name of a path stands for.
-    fn first(
-        &self,
-        alloc: Global,
-        outside: &mut OutsidePaths,
-        path: PathQuestion<'_>,
-        question: Question,
-    ) -> Result<Meaning, AllocError>
-        ensures { IfOk result (λ found. Means found (Begins self.now (place_of path.entry) question)) }
-    {
-        let is_import = path.import.is_some();
-        match path.start {
-            Start::Plain => self.first_name(alloc, outside, path.module, question, is_import),
-            Start::Global => self.global_name(alloc, outside, path.module, question),
-            start if self.begins_outside(start, path.module) => Ok(Meaning::Unknown),
-            _ => match self.base(path.start, path.module) {
-                Some(base) => {
-                    let found = self.in_module(alloc, outside, base, question)?;
-                    Ok(found.meaning)
-                }
-                None => Ok(Meaning::Nothing),
-            },
-        }
-    }
-
-    /// What the names of a path in front of the last one stand for.
-    pub(crate) fn front(
-        &self,
-        alloc: Global,
-        outside: &mut OutsidePaths,
-        path: PathQuestion<'_>,
-    ) -> Result<Front, AllocError>
-        ensures { IfOk result (IsFrontOf self.now (place_of path.entry) path.entry.names.now) }
-    {
-        self.front_from(alloc, outside, path, Front::Empty)
-    }
-
-    /// What the names of a path in front of the last one stand for, where those in front of them stand for this.
-    fn front_from(
-        &self,
-        alloc: Global,
-        outside: &mut OutsidePaths,
-        path: PathQuestion<'_>,
-        start: Front,
-    ) -> Result<Front, AllocError>
-        ensures { IsFront self.now (place_of path.entry) [] start → IfOk result (IsFrontOf self.now (place_of path.entry) path.entry.names.now) }
-    {
-        let Some((_, names)) = path.names.split_last() else {
-            return Ok(start);
-        };
-        let mut front = start;
-        for name in names {
-            front = self.front_with(alloc, outside, path, front, *name)?;
-        }
-        Ok(front)
-    }
-
-    /// What the names of a path stand for with one more.
-    fn front_with(
-        &self,
-        alloc: Global,
-        outside: &mut OutsidePaths,
-        path: PathQuestion<'_>,
-        front: Front,
-        name: Name,
-    ) -> Result<Front, AllocError>
-        ensures { (done : List Name) → IsFront self.now (place_of path.entry) done front → IfOk result (IsFront self.now (place_of path.entry) (done ++ name ∷ [])) }
-    {
-        let step = Step {
-            name,
-            namespace: Namespace::Type,
-        };
-        let answer = self.next(alloc, outside, path, front, step)?;
-        match answer.meaning {
-            Meaning::One(definition) => Ok(Front::Behind(definition)),
-            _ => Ok(Front::Ended(answer)),
-        }
-    }
-
-    /// What one more name of a path stands for.
-    fn next(
-        &self,
-        alloc: Global,
-        outside: &mut OutsidePaths,
-        path: PathQuestion<'_>,
-        front: Front,
-        step: Step,
-    ) -> Result<PathAnswer, AllocError>
-        ensures { (done : List Name) → IsFront self.now (place_of path.entry) done front → IfOk result (λ answer. Means answer.meaning (PathStandsFor self.now (place_of path.entry) step.namespace (done ++ step.name ∷ []))) }
-    {
-        let question = Question {
-            name: step.name,
-            namespace: step.namespace,
-            viewer: path.module,
-            skipped: path.import,
-        };
-        match front {
-            Front::Empty => Ok(PathAnswer {
-                meaning: self.first(alloc, outside, path, question)?,
-                name: Some(step.name),
-            }),
-            Front::Behind(definition) => Ok(PathAnswer {
-                meaning: self.behind(alloc, outside, definition, question)?,
-                name: Some(step.name),
-            }),
-            Front::Ended(answer) => Ok(answer),
-        }
-    }
-
-    /// What a path stands for in a namespace, where it is known what the names in front of the last one stand for.
-    pub(crate) fn end(
-        &self,
-        alloc: Global,
-        outside: &mut OutsidePaths,
-        path: PathQuestion<'_>,
-        front: Front,
-    ) -> Result<PathAnswer, AllocError>
-        ensures { IsFrontOf self.now (place_of path.entry) path.entry.names.now front → IfOk result (λ answer. Means answer.meaning (PathStandsFor self.now (place_of path.entry) path.entry.namespace path.entry.names.now)) }
-    {
-        let Some(name) = path.names.last() else {
-            return Ok(PathAnswer {
-                meaning: self.base_meaning(path),
-                name: None,
-            });
-        };
-        let step = Step {
-            name: *name,
-            namespace: path.namespace,
-        };
-        self.next(alloc, outside, path, front, step)
-    }
-
-    /// What a path without names stands for.
-    fn base_meaning(&self, path: PathQuestion<'_>) -> Meaning
-        ensures { Means result (PathStandsFor self.now (place_of path.entry) path.entry.namespace []) }
-    {
-        if self.begins_outside(path.start, path.module) {
-            return Meaning::Unknown;
-        }
-        match self.base(path.start, path.module) {
-            Some(base) => Meaning::One(Definition::Module(base)),
-            None => Meaning::Nothing,
-        }
-    }
-
-    /// What the names of a path stand for behind a definition.
-    pub(crate) fn path_behind(
-        &self,
-        alloc: Global,
-        outside: &mut OutsidePaths,
-        path: PathQuestion<'_>,
-        definition: Definition,
-    ) -> Result<Meaning, AllocError> {
-        let front = self.front_from(alloc, outside, path, Front::Behind(definition))?;
-        let answer = self.end(alloc, outside, path, front)?;
-        Ok(answer.meaning)
-    }
-
-    /// What a path stands for.
-    pub(crate) fn path(
-        &self,
-        alloc: Global,
-        outside: &mut OutsidePaths,
-        path: PathQuestion<'_>,
-    ) -> Result<PathAnswer, AllocError>
-        ensures { IfOk result (λ answer. Means answer.meaning (PathStandsFor self.now (place_of path.entry) path.entry.namespace path.entry.names.now)) }
-    {
-        let front = self.front(alloc, outside, path)?;
-        self.end(alloc, outside, path, front)
     }
 }

@@ -1,5 +1,5 @@
 -- Private: how what is found of a name agrees with what it stands for.
-use Rattle.std.specs.Prelude.{ℕ, ◌≡◌, ◌+◌, ◌*◌, Bool, true, false, nat_lt, List, [], ◌∷◌, ◌++◌, Some, Contains}
+use Rattle.std.specs.Prelude.{ℕ, ◌≡◌, Bool, true, false, nat_lt, List, [], ◌∷◌, ◌++◌, Some, Contains}
 use Rattle.ssr_names_items.specs.declared.table.Name.{Name}
 use Rattle.ssr_names_items.specs.declared.table.ModuleNo.{ModuleNo}
 use Rattle.ssr_names_items.specs.declared.table.ImportNo.{ImportNo}

@@ -14,6 +14,6 @@ returns-then-same-clause-settled c = λ _.
     let found = c.in_ok-found.found in (
       refl,
       settled_found space c.args.place row had found (sym c.in-Some.ensures) (sym c.in-Some-answers_at.ensures)
-      (subst (λ (i : ImportNo). AreAnswers space i row found) c.import_no.ensures c.in_ok-found.ensures)
-      (subst (λ (a : Answers). KeepsTaken found a) (sym (c.same.ensures c.if-same.true)) (λ n d is. is)),
+          (subst (λ (i : ImportNo). AreAnswers space i row found) c.import_no.ensures c.in_ok-found.ensures)
+          (subst (λ (a : Answers). KeepsTaken found a) (sym (c.same.ensures c.if-same.true)) (λ n d is. is)),
     )

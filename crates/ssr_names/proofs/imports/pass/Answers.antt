@@ -26,5 +26,5 @@ returns-clause-settled c = λ same.
     let had = c.loop-step.invariant.settled same in (
       had.0,
       settled_within fn count all
-      (λ place within. all_turned (IsSettledAt fn) c.args.is_backward count place within (λ step less. had.1 step (omega (arith, c.loop-step-test.false)))),
+          (λ place within. all_turned (IsSettledAt fn) c.args.is_backward count place within (λ step less. had.1 step (omega (arith, c.loop-step-test.false)))),
     )

@@ -15,6 +15,6 @@ returns-clause-settled c = λ same.
     let held = sym c.in-Some-answers_at.ensures in (
       c.set.ensures.same same,
       settled_found space c.args.place row had found (sym c.in-Some.ensures) held
-      (subst (λ (i : ImportNo). AreAnswers space i row found) c.import_no.ensures c.in_ok-found.ensures)
-      (subst (λ (a : Answers). KeepsTaken found a) (sym (c.set.ensures.held same had held)) c.kept.ensures),
+          (subst (λ (i : ImportNo). AreAnswers space i row found) c.import_no.ensures c.in_ok-found.ensures)
+          (subst (λ (a : Answers). KeepsTaken found a) (sym (c.set.ensures.held same had held)) c.kept.ensures),
     )

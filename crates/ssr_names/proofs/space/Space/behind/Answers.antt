@@ -1,4 +1,4 @@
-use Rattle.std.proofs.Common.{◌≡◌, refl, sym, subst, inl, inr}
+use Rattle.std.proofs.Common.{refl, sym, subst, inl, inr}
 use Rattle.std.proofs.lemmas.Result.{IfOk-weaker}
 use Rattle.ssr_names.specs.Lookup.{IsBehind, IsUnaliased, behind_module, behind_declared, behind_undeclared, behind_outside}
 use Rattle.ssr_names.proofs.space.Space.behind.Goals as goal

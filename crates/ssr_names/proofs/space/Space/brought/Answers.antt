@@ -1,4 +1,4 @@
-use Rattle.std.proofs.Common.{◌≡◌, Bool, true, false, true≢false, Some, sym, ◌∙◌, inl, inr}
+use Rattle.std.proofs.Common.{◌≡◌, true, false, true≢false, Some, sym, ◌∙◌, inl, inr}
 use Rattle.ssr_names_items.specs.declared.table.Namespace.TheVariants as ns
 use Rattle.ssr_names.specs.declared.definitions.Definition.TheVariants as def
 use Rattle.ssr_names.specs.declared.definitions.Meaning.TheVariants as meanings

@@ -1,10 +1,9 @@
 use Rattle.std.proofs.Common.{rules, List, subst, sym, true, false, ◌≡◌}
 use Rattle.std.specs.List.Sorted.{IsPartitionedBy, IsPartitionPoint}
-use Rattle.std.specs.Prelude.{not}
 use Rattle.std.proofs.lemmas.List.Sorted.{IsPartitionPoint-from_clause}
 use Rattle.ssr_names_items.specs.declared.table.Entry.{Entry}
-use Rattle.ssr_names.specs.Private.Answered.{is_before, is_behind}
-use Rattle.ssr_names.proofs.LookingUp.{before_parts, behind_parts}
+use Rattle.ssr_names.specs.Private.Answered.{is_before}
+use Rattle.ssr_names.proofs.LookingUp.{before_parts}
 use Rattle.ssr_names.proofs.space.Space.first_ranked.Goals as goal
 
 pub returns-clause-point : goal.returns-clause-point

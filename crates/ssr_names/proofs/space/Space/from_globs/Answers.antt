@@ -1,4 +1,4 @@
-use Rattle.std.proofs.Common.{All, sym, subst, ◌∙◌}
+use Rattle.std.proofs.Common.{All, sym, subst}
 use Rattle.std.proofs.lemmas.List.Elements.{All-nil}
 use Rattle.ssr_names.specs.Lookup.{Reaches, reaches_directly}
 use Rattle.ssr_names.proofs.LookingUp.{brought_none, brought_more, all_at}

@@ -3,8 +3,8 @@ use Rattle.std.specs.List.Sorted.{IsPartitionedBy, IsPartitionPoint}
 use Rattle.std.specs.Prelude.{not}
 use Rattle.std.proofs.lemmas.List.Sorted.{IsPartitionPoint-from_clause}
 use Rattle.ssr_names_items.specs.declared.table.Entry.{Entry}
-use Rattle.ssr_names.specs.Private.Answered.{is_before, is_behind}
-use Rattle.ssr_names.proofs.LookingUp.{before_parts, behind_parts}
+use Rattle.ssr_names.specs.Private.Answered.{is_behind}
+use Rattle.ssr_names.proofs.LookingUp.{behind_parts}
 use Rattle.ssr_names.proofs.space.Space.past_ranked.Goals as goal
 
 pub returns-clause-point : goal.returns-clause-point

@@ -1,5 +1,5 @@
 use Rattle.std.proofs.Common.{◌≤◌, length, refl, arith}
-use Rattle.ssr_names.specs.Lookup.{within_itself, within_below, blocks_none, blocks_one}
+use Rattle.ssr_names.specs.Lookup.{blocks_none, blocks_one}
 use Rattle.ssr_names.proofs.LookingUp.{climbs_first, climbs_on, climbs_none, block_above, top_outermost}
 use Rattle.ssr_names.proofs.space.Space.plain_module.Goals as goal
 

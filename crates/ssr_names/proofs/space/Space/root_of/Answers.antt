@@ -1,6 +1,6 @@
 use Rattle.std.proofs.Common.{◌≤◌, length, refl, arith}
-use Rattle.ssr_names.specs.Lookup.{within_itself, within_below, blocks_none, blocks_one}
-use Rattle.ssr_names.proofs.LookingUp.{climbs_first, climbs_on, climbs_none, block_above, top_outermost}
+use Rattle.ssr_names.specs.Lookup.{within_itself, within_below}
+use Rattle.ssr_names.proofs.LookingUp.{climbs_first, climbs_on, climbs_none}
 use Rattle.ssr_names.proofs.space.Space.root_of.Goals as goal
 
 pub loop-step-init : goal.loop-step-init
