@@ -6,14 +6,14 @@ ghost use Rattle.ssr_names_items.specs.declared.table.ModuleNo.{ModuleNo};
 ghost use Rattle.ssr_names.specs.declared.lookup.Question.{Question};
 ghost use Rattle.ssr_names.specs.Private.Meanings.{Means};
 ghost use Rattle.ssr_names.specs.Lookup.{IsGlob, IsOutside, IsVariant, Reaches};
-ghost use Rattle.ssr_names.specs.Private.Answered.{IsBrought, IsBroughtIn};
+ghost use Rattle.ssr_names.specs.Private.Answered.{BringsModule, IsBrought, IsBroughtIn};
 
 use crate::definitions::{Definition, Meaning, OutsideNo};
 use crate::lookup::{Found, Question, is_left_out, is_member};
 use crate::outside::OutsidePaths;
 use crate::space::{Space, between, is_same};
 use crate::std_names::brought_by_glob;
-use ssr_names_items::{Brings, ImportNo, ItemKind, ItemNo, ModuleNo, Name, Namespace};
+use ssr_names_items::{Brings, Import, ImportNo, ItemKind, ItemNo, ModuleNo, Name, Namespace};
 use std::alloc::{AllocError, Global};
 use std::collections::BTreeSet;
 
@@ -130,24 +130,11 @@ impl<'a> Space<'a> {
             return Ok(Found::NOTHING);
         };
         let is_sure = import.is_sure;
-        let seen_here = Question {
-            viewer: import.module,
-            ..question
-        };
         match self.answer(number, Namespace::Type) {
             Meaning::Nothing => Ok(Found::NOTHING),
             Meaning::Unknown => Ok(self.unread(question)),
             Meaning::One(Definition::Module(module)) => {
-                let explicit = self.explicit(module, seen_here);
-                if explicit.is_sure {
-                    return Ok(Found::of(explicit.meaning, is_sure));
-                }
-                if self.hides_globs(module, seen_here) {
-                    return Ok(self.unread(question));
-                }
-                self.add_globs(walk, module, seen_here)?;
-                let found = explicit.join(self.if_open(module, seen_here));
-                Ok(Found::of(found.meaning, false))
+                self.brought_of(walk, import, module, question)
             }
             Meaning::One(Definition::Item(item)) if !self.has_variants(item) => {
                 Ok(self.unread(question))
@@ -162,6 +149,33 @@ impl<'a> Space<'a> {
             }
             Meaning::One(Definition::Member(_, _)) => Ok(self.unread(question)),
         }
+    }
+
+    /// What an import by `*` of a module brings in under a name.
+    fn brought_of(
+        &self,
+        walk: &mut GlobWalk,
+        import: &Import,
+        module: ModuleNo,
+        question: Question,
+    ) -> Result<Found, AllocError>
+        ensures brought { (i : ImportNo) → BringsModule self.now i import.now «module» → IfOk result (IsBrought self.now question i) }
+        ensures reached { (i : ImportNo) → BringsModule self.now i import.now «module» → (root : ModuleNo) → All (Reaches self.now root question) walk.old.imports.items → Reaches self.now root question i → OnOk result (All (Reaches self.now root question) walk.new.imports.items) }
+    {
+        let seen_here = Question {
+            viewer: import.module,
+            ..question
+        };
+        let explicit = self.explicit(module, seen_here);
+        if explicit.is_sure {
+            return Ok(Found::of(explicit.meaning, import.is_sure));
+        }
+        if self.hides_globs(module, seen_here) {
+            return Ok(self.unread(question));
+        }
+        self.add_globs(walk, module, seen_here)?;
+        let found = explicit.join(self.if_open(module, seen_here));
+        Ok(Found::of(found.meaning, false))
     }
 
     /// Whether a module has something under a name that isn't seen, which hides what comes in by `*` there.

@@ -9,6 +9,7 @@ use Rattle.ssr_names_items.specs.declared.table.Thing.TheVariants as things
 use Rattle.ssr_names_items.specs.declared.table.Entry.{Entry}
 use Rattle.ssr_names_items.specs.declared.table.Import.{Import}
 use Rattle.ssr_names.specs.declared.definitions.Definition.{Definition}
+use Rattle.ssr_names.specs.declared.definitions.Definition.TheVariants as def
 use Rattle.ssr_names.specs.declared.definitions.Meaning.TheVariants as meanings
 use Rattle.ssr_names.specs.declared.lookup.Question.{Question}
 use Rattle.ssr_names.specs.declared.lookup.Found.{Found}
@@ -16,7 +17,7 @@ use Rattle.ssr_names.specs.declared.lookup.PathQuestion.{PathQuestion}
 use Rattle.ssr_names.specs.declared.lookup.Front.{Front}
 use Rattle.ssr_names.specs.declared.lookup.Front.TheVariants as fronts
 use Rattle.ssr_names.specs.declared.space.Space.{Space}
-use Rattle.ssr_names.specs.Lookup.{import_at, rank_of, IsOrdered, IsAroundBlock, Counts, IsNothing, IsVoid, IsAmong, IsDeclared, IsFree, Reaches, Brings, Has, IsEverywhere, Finds, Place, PathStandsFor}
+use Rattle.ssr_names.specs.Lookup.{answer_of, import_at, rank_of, IsOrdered, IsAroundBlock, Counts, IsNothing, IsVoid, IsAmong, IsDeclared, IsFree, Reaches, Brings, Has, IsEverywhere, Finds, Place, PathStandsFor}
 
 abbrev pub is_before : Entry → ℕ → Bool
 is_before entry other = nat_lt (rank_of entry) other
@@ -65,6 +66,11 @@ pub record IsUnread (found : Found) : Type 0 where
 -- an import by `*` is there in each configuration
 abbrev pub IsSureImport : Space → ImportNo → Type 0
 IsSureImport space i = (row : Import) × (import_at space i ≡ Some row) × (row.is_sure ≡ true)
+
+-- an import by `*` brings in what a module has
+pub record BringsModule (space : Space) (i : ImportNo) (row : Import) (m : ModuleNo) : Type 0 where
+  pub is : import_at space i ≡ Some row
+  pub stands : answer_of space i ns.Type ≡ meanings.One (def.Module m)
 
 -- what one import is found to bring in under a name
 pub record IsBrought (space : Space) (question : Question) (i : ImportNo) (found : Found) : Type 0 where
