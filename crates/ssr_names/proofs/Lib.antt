@@ -2,3 +2,10 @@ mod Climbing
 mod Naming
 mod Collecting
 mod Binding
+mod LookingUp
+mod Following
+mod Settling
+mod Telling
+mod Spelling
+mod Copying
+mod WholePaths

@@ -1,3 +1,9 @@
 pub mod Provider
 pub mod Locals
+pub mod Lookup
+pub mod WholePaths
+pub mod Settled
+pub mod CodePaths
+pub mod Declarations
+pub mod Told
 pub mod Private

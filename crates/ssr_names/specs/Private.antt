@@ -2,3 +2,10 @@
 pub mod Complete
 pub mod Scopes
 pub mod Locals
+pub mod Meanings
+pub mod Found
+pub mod Answered
+pub mod Settling
+pub mod Macros
+pub mod Rows
+pub mod Copies

@@ -1,9 +1,10 @@
 //! Paths of the code as they are spelled.
-ghost use Rattle.std.specs.Prelude.{◌≡◌};
+ghost use Rattle.std.specs.Prelude.{◌≡◌, ◌⊎◌, [], reverse, IfOk, IfSome};
 ghost use Rattle.std.specs.Option.{option_map};
 ghost use Rattle.ssr_syntax_tree.specs.Places.{HasNode, node_of};
 ghost use Rattle.ide_ssr_resolved_rule.specs.Paths.{last_name};
 ghost use Rattle.ssr_names.specs.Locals.{begins_with_colons, is_alone, text_of_first};
+ghost use Rattle.ssr_names.specs.CodePaths.{AreRead, AreSegments, IsSegment, IsSpelledAs, continued};
 
 use ide_ssr_resolved_rule::{first_child, last_segment};
 use ssr_names_items::{Name, Names, Start};
@@ -53,6 +54,7 @@ pub(crate) fn last_text(tree: &Tree, path: NodeNo) -> Option<&str>
 /// What a path's last segment is. A name that nothing of the run has is as good as any other such name.
 fn segment_of(tree: &Tree, path: NodeNo, names: &Names, stranger: Name) -> Segment
     requires { HasNode tree.now path.0 }
+    ensures { IsSegment names.now stranger (last_name (node_of tree.now path.0).children) result }
 {
     match last_text(tree, path) {
         Some("crate") => Segment::Crate,
@@ -92,11 +94,13 @@ fn segments(
     stranger: Name,
 ) -> Result<Vec<Segment>, AllocError>
     requires { HasNode tree.now path.0 }
+    ensures { IfOk result (λ found. (found.items ≡ []) ⊎ AreSegments names.now stranger tree.now (node_of tree.now path.0) (reverse found.items)) }
 {
     let mut found = Vec::new(alloc);
     let mut at = path;
     for _ in 0..MOST_SEGMENTS {
-        found.push(segment_of(tree, at, names, stranger))?;
+        let segment = segment_of(tree, at, names, stranger);
+        found.push(segment)?;
         match first_child(tree, at, SyntaxKind::PATH) {
             Some(front) => at = front,
             None => return Ok(found),
@@ -107,7 +111,9 @@ fn segments(
 }
 
 /// How a path begins, where one more segment follows; none, where that can't be.
-fn continued(start: Start, segment: Segment) -> Option<Start> {
+fn continued(start: Start, segment: Segment) -> Option<Start>
+    ensures { result ≡ continued start segment }
+{
     match (start, segment) {
         (Start::Plain, Segment::Crate) => Some(Start::Crate),
         (Start::Plain, Segment::SelfWord) => Some(Start::SelfModule),
@@ -126,18 +132,34 @@ pub(crate) fn code_path(
     stranger: Name,
 ) -> Result<Option<CodePath>, AllocError>
     requires { HasNode tree.now path.0 }
+    ensures { IfOk result (λ read. IfSome read (λ read. IsSpelledAs names.now stranger tree.now path.0 read.start read.names.items)) }
 {
     let mut spelled = segments(alloc, tree, path, names, stranger)?;
+    if spelled.is_empty() {
+        return Ok(None);
+    }
     spelled.reverse();
-    let mut read = CodePath {
-        start: if begins_with_colons(tree, path) {
-            Start::Global
-        } else {
-            Start::Plain
-        },
-        names: Vec::with_capacity(alloc, spelled.len())?,
+    let start = if begins_with_colons(tree, path) {
+        Start::Global
+    } else {
+        Start::Plain
     };
-    for segment in &spelled {
+    read_segments(alloc, start, &spelled)
+}
+
+/// The path whose segments are these.
+fn read_segments(
+    alloc: Global,
+    start: Start,
+    segments: &[Segment],
+) -> Result<Option<CodePath>, AllocError>
+    ensures { IfOk result (λ read. IfSome read (λ read. AreRead start segments.now read.start read.names.items)) }
+{
+    let mut read = CodePath {
+        start,
+        names: Vec::with_capacity(alloc, segments.len())?,
+    };
+    for segment in segments {
         if let Segment::Name(name) = segment {
             read.names.push(*name)?;
             continue;

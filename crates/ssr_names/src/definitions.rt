@@ -1,4 +1,7 @@
 //! What names and paths stand for.
+ghost use Rattle.std.specs.Prelude.{◌≡◌, ◌⊎◌, true};
+ghost use Rattle.ssr_names.specs.Private.Meanings.{Means, is_something};
+
 use ssr_names_items::{ItemNo, ModuleNo, Name};
 
 /// The number of a path among `OutsidePaths`.
@@ -16,6 +19,23 @@ pub(crate) enum Definition {
     Member(ItemNo, Name),
 }
 
+impl Definition {
+    /// Whether this is the same definition.
+    pub(crate) fn is(self, other: Definition) -> bool
+        ensures { result ≡ true → self ≡ other }
+    {
+        match (self, other) {
+            (Definition::Module(one), Definition::Module(two)) => one.0 == two.0,
+            (Definition::Item(one), Definition::Item(two)) => one.0 == two.0,
+            (Definition::Outside(one), Definition::Outside(two)) => one.0 == two.0,
+            (Definition::Member(one, name), Definition::Member(two, other)) => {
+                one.0 == two.0 && name.0 == other.0
+            }
+            _ => false,
+        }
+    }
+}
+
 /// What is known of what a name stands for.
 #[derive(Clone, Copy, Debug, PartialEq, Eq)]
 pub(crate) enum Meaning {
@@ -28,7 +48,10 @@ pub(crate) enum Meaning {
 
 impl Meaning {
     /// What is known from two look-ups that both count: two different definitions are unknown.
-    pub(crate) fn join(self, other: Meaning) -> Meaning {
+    pub(crate) fn join(self, other: Meaning) -> Meaning
+        ensures means { Means result (λ d. (self ≡ Meaning.One d) ⊎ (other ≡ Meaning.One d)) }
+        ensures nothing { result ≡ Meaning.Nothing → (self ≡ Meaning.Nothing) × (other ≡ Meaning.Nothing) }
+    {
         match (self, other) {
             (Meaning::Nothing, _) => other,
             (_, Meaning::Nothing) => self,
@@ -37,8 +60,31 @@ impl Meaning {
         }
     }
 
+    /// Whether this is the same meaning.
+    pub(crate) fn same(self, other: Meaning) -> bool
+        ensures { result ≡ true → self ≡ other }
+    {
+        match (self, other) {
+            (Meaning::Nothing, Meaning::Nothing) | (Meaning::Unknown, Meaning::Unknown) => true,
+            (Meaning::One(one), Meaning::One(other)) => one.is(other),
+            _ => false,
+        }
+    }
+
+    /// Whether it is known to be this definition.
+    pub(crate) fn is(self, definition: Definition) -> bool
+        ensures { result ≡ true → self ≡ Meaning.One definition }
+    {
+        match self {
+            Meaning::One(one) => one.is(definition),
+            _ => false,
+        }
+    }
+
     /// Whether there is something of that name, or may be.
-    pub(crate) fn is_something(self) -> bool {
+    pub(crate) fn is_something(self) -> bool
+        ensures { result ≡ is_something self }
+    {
         !matches!(self, Meaning::Nothing)
     }
 }

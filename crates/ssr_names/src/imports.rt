@@ -1,10 +1,19 @@
 //! What the paths of imports stand for.
 
+ghost use Rattle.std.specs.Prelude.{ℕ, ◌≡◌, ◌+◌, ◌<◌, true, false, Some, IfOk, OnOk, slice_get};
+ghost use Rattle.std.specs.Option.{option_copied};
+ghost use Rattle.ssr_names.specs.declared.space.Answers.{Answers};
+ghost use Rattle.ssr_names.specs.Private.Meanings.{Means};
+ghost use Rattle.ssr_names.specs.Lookup.{PathStandsFor};
+ghost use Rattle.ssr_names.specs.Private.Answered.{IsFrontOf, place_of};
+ghost use Rattle.ssr_names.specs.Settled.{AreAnswers, IsSettled, IsSettledAt, import_no};
+ghost use Rattle.ssr_names.specs.Private.Settling.{IsAnswered, KeepsTaken, turned};
+
 use crate::definitions::Meaning;
 use crate::lookup::{Front, PathQuestion};
 use crate::outside::OutsidePaths;
 use crate::space::{Answers, Space};
-use ssr_names_items::{Brings, Import, ImportNo, Namespace};
+use ssr_names_items::{Brings, Import, ImportNo, Namespace, Table};
 use std::alloc::{AllocError, Global};
 
 /// How often all imports are gone over at most.
@@ -18,7 +27,9 @@ fn answer_in(
     path: PathQuestion<'_>,
     front: Front,
     namespace: Namespace,
-) -> Result<Meaning, AllocError> {
+) -> Result<Meaning, AllocError>
+    ensures { IsFrontOf space.now (place_of path.entry) path.entry.names.now front → IfOk result (λ found. Means found (PathStandsFor space.now (place_of path.entry) namespace path.entry.names.now)) }
+{
     let question = PathQuestion { namespace, ..path };
     let answer = space.end(alloc, outside, question, front)?;
     Ok(answer.meaning)
@@ -31,7 +42,9 @@ fn answers_of(
     outside: &mut OutsidePaths,
     number: ImportNo,
     import: &Import,
-) -> Result<Answers, AllocError> {
+) -> Result<Answers, AllocError>
+    ensures { IfOk result (AreAnswers space.now number import.now) }
+{
     let path = PathQuestion {
         start: import.start,
         names: &import.segments,
@@ -55,27 +68,51 @@ fn answers_of(
 }
 
 /// What an import is taken to stand for, where it stood for `had`: one that was found to have no answer stays unknown.
-fn kept(had: Answers, found: Answers) -> Answers {
-    if !found.is_something() && had == Answers::all(Meaning::Unknown) {
+fn kept(had: Answers, found: Answers) -> Answers
+    ensures { KeepsTaken found result }
+{
+    if !found.is_something() && had.same(Answers::all(Meaning::Unknown)) {
         had
     } else {
         found
     }
 }
 
-/// The import at a place; of places that no import can have all are one.
-fn import_no(place: usize) -> ImportNo {
+/// The import of a table at a place.
+fn import_in<'a>(table: &'a Table, place: usize) -> Option<&'a Import>
+    ensures { option_copied result ≡ slice_get table.now.imports.items place }
+{
+    table.imports.get(place)
+}
+
+/// What the import at a place is taken to stand for.
+fn answers_at(space: &Space<'_>, place: usize) -> Option<Answers>
+    ensures { result ≡ slice_get space.now.answers.items place }
+{
+    space.answers.get(place).copied()
+}
+
+/// The number of the import at a place; of places that no import can have all are one.
+fn import_no(place: usize) -> ImportNo
+    ensures { result ≡ import_no place }
+{
     ImportNo(u32::try_from(place).unwrap_or(u32::MAX))
 }
 
 /// Sets what an import stands for; whether that is new.
-fn set(space: &mut Space<'_>, place: usize, answers: Answers) -> bool {
-    let Some(held) = space.answers.get_mut(place) else {
-        return false;
-    };
-    let is_new = *held != answers;
-    *held = answers;
-    is_new
+fn set(space: &mut Space<'_>, place: usize, answers: Answers) -> bool
+    ensures answered { IsAnswered space.old space.new }
+    ensures same { result ≡ false → space.new ≡ space.old }
+    ensures held { result ≡ false → (had : Answers) → slice_get space.old.answers.items place ≡ Some had → had ≡ answers }
+{
+    match space.answers.get(place) {
+        Some(held) if !held.same(answers) => {}
+        _ => return false,
+    }
+    if let Some(held) = space.answers.get_mut(place) {
+        *held = answers;
+    }
+    true
 }
 
 /// Finds what an import stands for; whether that is something else than before.
@@ -84,10 +121,15 @@ fn renew(
     space: &mut Space<'_>,
     outside: &mut OutsidePaths,
     place: usize,
-) -> Result<bool, AllocError> {
+) -> Result<bool, AllocError>
+    ensures answered { OnOk result (IsAnswered space.old space.new) }
+    ensures settled { IfOk result (λ is_new. is_new ≡ false → (space.new ≡ space.old) × IsSettledAt space.old place) }
+{
     let table = space.table;
-    let (Some(import), Some(had)) = (table.imports.get(place), space.answers.get(place).copied())
-    else {
+    let Some(import) = import_in(table, place) else {
+        return Ok(false);
+    };
+    let Some(had) = answers_at(space, place) else {
         return Ok(false);
     };
     let found = answers_of(alloc, space, outside, import_no(place), import)?;
@@ -100,27 +142,65 @@ fn pass(
     space: &mut Space<'_>,
     outside: &mut OutsidePaths,
     is_backward: bool,
-) -> Result<bool, AllocError> {
+) -> Result<bool, AllocError>
+    ensures answered { OnOk result (IsAnswered space.old space.new) }
+    ensures settled { IfOk result (λ is_changed. is_changed ≡ false → (space.new ≡ space.old) × IsSettled space.old) }
+{
     let count = space.answers.len();
     let mut is_changed = false;
     for step in 0..count {
-        let place = if is_backward { count - 1 - step } else { step };
-        let is_new = renew(alloc, space, outside, place)?;
-        is_changed = is_changed || is_new;
+        let is_new = renew(alloc, space, outside, turned(is_backward, count, step))?;
+        is_changed |= is_new;
     }
     Ok(is_changed)
 }
 
+/// The place that is gone to at a step, in order or from the last one on.
+fn turned(is_backward: bool, count: usize, step: usize) -> usize
+    requires { step < count }
+    ensures { result ≡ turned is_backward count step }
+{
+    if is_backward { count - 1 - step } else { step }
+}
+
 /// Takes each import without an answer as unknown; whether there is one.
-fn doubt_unanswered(space: &mut Space<'_>) -> bool {
-    let mut is_changed = false;
+fn doubt_unanswered(space: &mut Space<'_>) -> bool
+    ensures answered { IsAnswered space.old space.new }
+    ensures same { result ≡ false → space.new ≡ space.old }
+{
+    if space.answers.iter().all(|answers| answers.is_something()) {
+        return false;
+    }
     for answers in space.answers.iter_mut() {
         if !answers.is_something() {
             *answers = Answers::all(Meaning::Unknown);
-            is_changed = true;
         }
     }
-    is_changed
+    true
+}
+
+/// Takes an import as unknown that isn't what its path stands for; whether that is new.
+fn doubt(
+    alloc: Global,
+    space: &mut Space<'_>,
+    outside: &mut OutsidePaths,
+    place: usize,
+) -> Result<bool, AllocError>
+    ensures answered { OnOk result (IsAnswered space.old space.new) }
+    ensures settled { IfOk result (λ is_new. is_new ≡ false → (space.new ≡ space.old) × IsSettledAt space.old place) }
+{
+    let table = space.table;
+    let Some(import) = import_in(table, place) else {
+        return Ok(false);
+    };
+    let Some(had) = answers_at(space, place) else {
+        return Ok(false);
+    };
+    let found = answers_of(alloc, space, outside, import_no(place), import)?;
+    if had.same(found) {
+        return Ok(false);
+    }
+    Ok(set(space, place, Answers::all(Meaning::Unknown)))
 }
 
 /// Takes each import as unknown that isn't what its path stands for; whether there is one.
@@ -128,43 +208,94 @@ fn doubt_unsettled(
     alloc: Global,
     space: &mut Space<'_>,
     outside: &mut OutsidePaths,
-) -> Result<bool, AllocError> {
-    let table = space.table;
-    let unknown = Answers::all(Meaning::Unknown);
+) -> Result<bool, AllocError>
+    ensures answered { OnOk result (IsAnswered space.old space.new) }
+    ensures settled { IfOk result (λ is_changed. is_changed ≡ false → (space.new ≡ space.old) × IsSettled space.old) }
+{
     let mut is_changed = false;
-    for (place, import) in table.imports.iter().enumerate() {
-        let Some(had) = space.answers.get(place).copied() else {
-            break;
-        };
-        let found = answers_of(alloc, space, outside, import_no(place), import)?;
-        if had != found {
-            let is_new = set(space, place, unknown);
-            is_changed = is_changed || is_new;
-        }
+    for place in 0..space.answers.len() {
+        let is_new = doubt(alloc, space, outside, place)?;
+        is_changed |= is_new;
     }
     Ok(is_changed)
 }
 
-/// Finds what each import's path stands for: nothing at first, and then in passes, in turn forward and backward, until nothing changes. After 64 passes what
+/// Goes over all imports once more; whether some stands for something else than before, or has no answer.
+fn go_on(
+    alloc: Global,
+    space: &mut Space<'_>,
+    outside: &mut OutsidePaths,
+    is_backward: bool,
+) -> Result<bool, AllocError>
+    ensures answered { OnOk result (IsAnswered space.old space.new) }
+    ensures settled { IfOk result (λ is_changed. is_changed ≡ false → IsSettled space.new) }
+{
+    if pass(alloc, space, outside, is_backward)? {
+        return Ok(true);
+    }
+    Ok(doubt_unanswered(space))
+}
+
+/// Goes over all imports in passes, in turn forward and backward, until nothing changes; whether that came to an end.
+fn settle_in_passes(
+    alloc: Global,
+    space: &mut Space<'_>,
+    outside: &mut OutsidePaths,
+) -> Result<bool, AllocError>
+    ensures answered { OnOk result (IsAnswered space.old space.new) }
+    ensures settled { IfOk result (λ is_settled. is_settled ≡ true → IsSettled space.new) }
+{
+    for number in 0..MOST_PASSES {
+        let is_backward = number % 2 == 1;
+        if !go_on(alloc, space, outside, is_backward)? {
+            return Ok(true);
+        }
+    }
+    Ok(false)
+}
+
+/// Takes imports as unknown until each is what its path stands for; whether that came to an end.
+fn settle_by_doubt(
+    alloc: Global,
+    space: &mut Space<'_>,
+    outside: &mut OutsidePaths,
+) -> Result<bool, AllocError>
+    ensures answered { OnOk result (IsAnswered space.old space.new) }
+    ensures settled { IfOk result (λ is_settled. is_settled ≡ true → IsSettled space.new) }
+{
+    for _ in 0..MOST_PASSES {
+        if !doubt_unsettled(alloc, space, outside)? {
+            return Ok(true);
+        }
+    }
+    Ok(false)
+}
+
+/// Takes all imports as unknown.
+fn doubt_all(alloc: Global, space: &mut Space<'_>) -> Result<(), AllocError>
+    ensures answered { OnOk result (IsAnswered space.old space.new) }
+    ensures settled { OnOk result (IsSettled space.new) }
+{
+    let unknown = Answers::all(Meaning::Unknown);
+    space.answers = vec![in alloc; unknown; space.answers.len()]?;
+    Ok(())
+}
+
+/// Finds what each import's path stands for: nothing at first, and then in passes until nothing changes. After 64 passes what
 /// isn't settled is unknown.
 pub(crate) fn settle(
     alloc: Global,
     space: &mut Space<'_>,
     outside: &mut OutsidePaths,
-) -> Result<(), AllocError> {
-    for number in 0..MOST_PASSES {
-        let is_backward = number % 2 == 1;
-        if !pass(alloc, space, outside, is_backward)? && !doubt_unanswered(space) {
-            return Ok(());
-        }
+) -> Result<(), AllocError>
+    ensures answered { OnOk result (IsAnswered space.old space.new) }
+    ensures settled { OnOk result (IsSettled space.new) }
+{
+    if settle_in_passes(alloc, space, outside)? {
+        return Ok(());
     }
-    for _ in 0..MOST_PASSES {
-        if !doubt_unsettled(alloc, space, outside)? {
-            return Ok(());
-        }
+    if settle_by_doubt(alloc, space, outside)? {
+        return Ok(());
     }
-    for answers in space.answers.iter_mut() {
-        *answers = Answers::all(Meaning::Unknown);
-    }
-    Ok(())
+    doubt_all(alloc, space)
 }

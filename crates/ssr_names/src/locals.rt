@@ -3,6 +3,7 @@ ghost use Rattle.std.specs.Prelude.{◌≡◌, ◌&&◌, true, false, IfOk, OnOk
 ghost use Rattle.ssr_base_trees.specs.Workspace.{trees as placed};
 ghost use Rattle.ssr_base_trees.specs.Built.{IsBuilt};
 ghost use Rattle.ssr_base_trees.specs.Laws.{IsBelow};
+ghost use Rattle.ssr_names.specs.Private.Meanings.{Means};
 ghost use Rattle.ssr_names.specs.Locals.{is_function, is_function_at, HasParameterAt, IsBoundName, IsLocal, IsOfGenerics};
 ghost use Rattle.ssr_names.specs.Private.Locals.{BindAll, BindAmong, BindAround, CollectsAll, IsBoundBy, IsRight, StaysBound, is_bound};
 
@@ -223,7 +224,8 @@ impl<'l> Locals<'l> {
         requires built { IsBuilt self.now.trees.now }
         requires collected { CollectsAll (placed self.now.trees.now) self.now.words.now }
         requires bound { BindAll (placed self.now.trees.now) self.now.bound.now self.now.words.now.binders.items }
-        ensures { IfOk result (λ row. IsRight (placed self.now.trees.now) row) }
+        ensures local { IfOk result (λ row. IsRight (placed self.now.trees.now) row) }
+        ensures told { IfOk result (λ told. (told.node ≡ row.node) × Means told.meaning (λ d. row.meaning ≡ Meaning.One d)) }
     {
         if !self.is_bound(alloc, row.node)? {
             return Ok(row);

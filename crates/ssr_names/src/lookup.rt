@@ -1,15 +1,16 @@
-//! What names and paths stand for where they are written.
+//! What names stand for where they are written.
 
-use crate::definitions::{Definition, Meaning, OutsideNo};
+ghost use Rattle.std.specs.Prelude.{◌≡◌, ◌⊎◌, true, false, Some, IfOk};
+ghost use Rattle.ssr_names.specs.Private.Meanings.{Means, is_something};
+ghost use Rattle.ssr_names.specs.Lookup.{Counts, IsAsked, IsNothing, IsOrdered, IsVoid, StandsFor};
+ghost use Rattle.ssr_names.specs.Private.Answered.{IsAround, IsDeclaredAs, IsFoundAmong, IsInModule, IsUnread, is_declared, is_import};
+ghost use Rattle.ssr_names.specs.Private.Found.{Adds, Hides, Joins, found_of};
+
+use crate::definitions::{Definition, Meaning};
 use crate::outside::OutsidePaths;
-use crate::space::{Space, between};
-use crate::std_names::{brought_by_glob, is_builtin_type, is_in_type_module};
-use ssr_names_items::{
-    Edition, Entry, ImportNo, ItemKind, ItemNo, ModuleKind, ModuleNo, Name, Namespace, Owner,
-    Start, Thing,
-};
+use crate::space::{Member, Space, is_same};
+use ssr_names_items::{Entry, ImportNo, ItemKind, ItemNo, ModuleNo, Name, Namespace, Start, Thing};
 use std::alloc::{AllocError, Global};
-use std::collections::BTreeSet;
 
 /// What is looked up.
 #[derive(Clone, Copy)]
@@ -35,7 +36,9 @@ impl Found {
         is_sure: false,
     };
 
-    fn of(meaning: Meaning, is_sure: bool) -> Found {
+    pub(crate) fn of(meaning: Meaning, is_sure: bool) -> Found
+        ensures { result ≡ found_of meaning is_sure }
+    {
         Found {
             meaning,
             is_sure: is_sure && meaning.is_something(),
@@ -44,7 +47,9 @@ impl Found {
 
     /// What is known where this is found first: it hides what is found behind it, if it is sure. But a path that isn't read may
     /// have no such name in a namespace, and then it hides no definition of the run.
-    fn hiding(self, behind: Found) -> Found {
+    fn hiding(self, behind: Found) -> Found
+        ensures { Hides self behind result }
+    {
         if !self.is_sure {
             return self.join(behind);
         }
@@ -58,7 +63,9 @@ impl Found {
     }
 
     /// What is known where both count.
-    fn join(self, other: Found) -> Found {
+    pub(crate) fn join(self, other: Found) -> Found
+        ensures { Joins self other result }
+    {
         Found {
             meaning: self.meaning.join(other.meaning),
             is_sure: self.is_sure || other.is_sure,
@@ -94,34 +101,40 @@ pub(crate) enum Front {
     Ended(PathAnswer),
 }
 
-/// A name of a path, and the namespace that it is looked up in.
-#[derive(Clone, Copy)]
-struct Step {
-    name: Name,
-    namespace: Namespace,
+/// Whether an entry is an import.
+fn is_import(thing: Thing) -> bool
+    ensures { result ≡ is_import thing }
+{
+    matches!(thing, Thing::Import(_))
 }
 
-/// Modules whose names come in by `*`, in the order in which they are looked at.
-#[derive(Drop)]
-struct GlobWalk {
-    imports: Vec<ImportNo>,
-    seen: BTreeSet<ImportNo>,
+/// Whether an entry is the import that is left out.
+fn is_skipped(thing: Thing, skipped: Option<ImportNo>) -> bool
+    ensures skipped { result ≡ true → ¬ IsAsked thing skipped }
+    ensures asked { result ≡ false → IsAsked thing skipped }
+{
+    match thing {
+        Thing::Import(import) => is_left_out(skipped, import),
+        _ => false,
+    }
 }
 
-impl GlobWalk {
-    fn new(alloc: Global) -> GlobWalk {
-        GlobWalk {
-            imports: Vec::new(alloc),
-            seen: BTreeSet::new(alloc),
-        }
+/// Whether an import is the one that is left out.
+pub(crate) fn is_left_out(skipped: Option<ImportNo>, import: ImportNo) -> bool
+    ensures out { result ≡ true → skipped ≡ Some import }
+    ensures asked { result ≡ false → ¬ (skipped ≡ Some import) }
+{
+    match skipped {
+        Some(other) => other.0 == import.0,
+        None => false,
     }
+}
 
-    fn add(&mut self, import: ImportNo) -> Result<(), AllocError> {
-        if self.seen.insert(import)? {
-            self.imports.push(import)?;
-        }
-        Ok(())
-    }
+/// Whether a member is one of an item with a name.
+pub(crate) fn is_member(member: &Member, item: ItemNo, name: Name) -> bool
+    ensures { result ≡ true → (member.now.of ≡ item) × (member.now.name ≡ name) }
+{
+    member.of.0 == item.0 && member.name.0 == name.0
 }
 
 impl<'a> Space<'a> {
@@ -133,12 +146,14 @@ impl<'a> Space<'a> {
     }
 
     /// Whether nothing that comes in by `*` can hide a name: it is never hidden by what isn't read, and nothing that is read has it.
-    fn comes_by_no_glob(&self, question: Question) -> bool {
+    pub(crate) fn comes_by_no_glob(&self, question: Question) -> bool {
         self.is_never_hidden(question) && self.type_names.binary_search(&question.name).is_err()
     }
 
     /// What an unread name may be.
-    fn unread(&self, question: Question) -> Found {
+    pub(crate) fn unread(&self, question: Question) -> Found
+        ensures { IsUnread result }
+    {
         if self.is_never_hidden(question) {
             Found::NOTHING
         } else {
@@ -147,7 +162,9 @@ impl<'a> Space<'a> {
     }
 
     /// What a name that isn't found in a module may be.
-    fn if_open(&self, module: ModuleNo, question: Question) -> Found {
+    pub(crate) fn if_open(&self, module: ModuleNo, question: Question) -> Found
+        ensures { IsUnread result }
+    {
         match self.module(module) {
             Some(row) if !row.is_open => Found::NOTHING,
             _ => self.unread(question),
@@ -155,7 +172,11 @@ impl<'a> Space<'a> {
     }
 
     /// What an entry stands for.
-    pub(crate) fn entry_meaning(&self, entry: &Entry, question: Question) -> Meaning {
+    pub(crate) fn entry_meaning(&self, entry: &Entry, question: Question) -> Meaning
+        ensures stands { Means result (StandsFor self.now question.namespace entry.now.thing) }
+        ensures nothing { result ≡ Meaning.Nothing → IsNothing self.now question.namespace entry.now.thing }
+        ensures something { is_something result ≡ true → ¬ IsVoid self.now question.namespace entry.now.thing }
+    {
         match entry.thing {
             Thing::Item(item) => Meaning::One(Definition::Item(self.first_item(item))),
             Thing::Module(module) => Meaning::One(Definition::Module(module)),
@@ -168,18 +189,23 @@ impl<'a> Space<'a> {
         }
     }
 
-    /// Whether an entry counts: the viewer sees it, and it isn't what is left out.
-    fn counts(&self, entry: &Entry, question: Question) -> bool {
-        let is_skipped = match (entry.thing, question.skipped) {
-            (Thing::Import(import), Some(skipped)) => import == skipped,
-            _ => false,
-        };
-        !is_skipped && self.is_seen(entry.visibility, question.viewer)
+    /// Whether an entry counts: it is one of the name in a module, the viewer sees it, and it isn't what is left out.
+    fn counts(&self, module: ModuleNo, entry: &Entry, question: Question) -> bool
+        ensures seen { result ≡ true → Counts self.now «module» question entry.now }
+        ensures unseen { IsOrdered self.now → result ≡ false → ¬ Counts self.now «module» question entry.now }
+    {
+        entry.module.0 == module.0
+            && entry.name.0 == question.name.0
+            && entry.namespace == question.namespace
+            && !is_skipped(entry.thing, question.skipped)
+            && self.is_seen(entry.visibility, question.viewer)
     }
 
     /// Of two entries of one name what both stand for: items of one sort are one definition, but for aliases, which may be those
     /// of different types.
-    fn same_items(&self, had: Meaning, more: Meaning) -> Meaning {
+    fn same_items(&self, had: Meaning, more: Meaning) -> Meaning
+        ensures { Means result (λ d. (had ≡ Meaning.One d) ⊎ (more ≡ Meaning.One d)) }
+    {
         match (had, more) {
             (Meaning::One(Definition::Item(one)), Meaning::One(Definition::Item(other))) => {
                 let kind = self.kind_of(one);
@@ -195,219 +221,85 @@ impl<'a> Space<'a> {
     }
 
     /// What the items among entries of a name stand for.
-    fn declared(&self, entries: &[Entry], question: Question) -> Found {
+    fn declared(&self, module: ModuleNo, entries: &[Entry], question: Question) -> Found
+        ensures { IsFoundAmong self.now «module» question entries.now is_declared result }
+    {
         let mut found = Found::NOTHING;
         for entry in entries {
-            if !matches!(entry.thing, Thing::Import(_)) && self.counts(entry, question) {
-                let meaning = self.entry_meaning(entry, question);
-                found = Found {
-                    meaning: self.same_items(found.meaning, meaning),
-                    is_sure: found.is_sure || (entry.is_sure && meaning.is_something()),
-                };
-            }
+            found = self.with_declared(found, module, entry, question);
         }
         found
     }
 
+    /// What is found with an entry more, if that is an item.
+    fn with_declared(
+        &self,
+        found: Found,
+        module: ModuleNo,
+        entry: &Entry,
+        question: Question,
+    ) -> Found
+        ensures { Adds self.now «module» question entry.now is_declared found result }
+    {
+        if is_import(entry.thing) || !self.counts(module, entry, question) {
+            return found;
+        }
+        let meaning = self.entry_meaning(entry, question);
+        Found {
+            meaning: self.same_items(found.meaning, meaning),
+            is_sure: found.is_sure || (entry.is_sure && meaning.is_something()),
+        }
+    }
+
     /// What the imports among entries of a name stand for.
-    fn imported(&self, entries: &[Entry], question: Question) -> Found {
+    fn imported(&self, module: ModuleNo, entries: &[Entry], question: Question) -> Found
+        ensures { IsFoundAmong self.now «module» question entries.now is_import result }
+    {
         let mut found = Found::NOTHING;
         for entry in entries {
-            if matches!(entry.thing, Thing::Import(_)) && self.counts(entry, question) {
-                let meaning = self.entry_meaning(entry, question);
-                found = found.join(Found::of(meaning, entry.is_sure));
-            }
+            found = self.with_imported(found, module, entry, question);
         }
         found
+    }
+
+    /// What is found with an entry more, if that is an import.
+    fn with_imported(
+        &self,
+        found: Found,
+        module: ModuleNo,
+        entry: &Entry,
+        question: Question,
+    ) -> Found
+        ensures { Adds self.now «module» question entry.now is_import found result }
+    {
+        if !is_import(entry.thing) || !self.counts(module, entry, question) {
+            return found;
+        }
+        let meaning = self.entry_meaning(entry, question);
+        found.join(Found::of(meaning, entry.is_sure))
     }
 
     /// What a module has under a name but for what comes in by `*`. An item that is there in each configuration leaves no room
     /// for an import.
-    fn explicit(&self, module: ModuleNo, question: Question) -> Found {
-        let entries = self.entries(module, question.name, question.namespace);
-        let declared = self.declared(entries, question);
+    pub(crate) fn explicit(&self, module: ModuleNo, question: Question) -> Found
+        ensures { IsDeclaredAs self.now «module» question result }
+    {
+        let entries = self.entries(module, question.name);
+        let declared = self.declared(module, entries, question);
         if declared.is_sure {
             return declared;
         }
-        declared.join(self.imported(entries, question))
+        declared.join(self.imported(module, entries, question))
     }
 
-    /// Adds the imports by `*` of a module that a viewer sees.
-    fn add_globs(
-        &self,
-        walk: &mut GlobWalk,
-        module: ModuleNo,
-        question: Question,
-    ) -> Result<(), AllocError> {
-        for glob in self.globs_of(module) {
-            if question.skipped == Some(glob.import) {
-                continue;
-            }
-            if let Some(import) = self.import(glob.import)
-                && self.is_seen(import.visibility, question.viewer)
-            {
-                walk.add(glob.import)?;
-            }
-        }
-        Ok(())
-    }
-
-    /// What a name is that comes in by `*`.
-    fn from_globs(
-        &self,
-        alloc: Global,
-        outside: &mut OutsidePaths,
-        module: ModuleNo,
-        question: Question,
-    ) -> Result<Found, AllocError> {
-        let mut found = self.if_open(module, question);
-        if self.globs_of(module).is_empty() || self.comes_by_no_glob(question) {
-            return Ok(found);
-        }
-        let mut walk = GlobWalk::new(alloc);
-        self.add_globs(&mut walk, module, question)?;
-        for place in 0..self.globs.len() {
-            let Some(import) = walk.imports.get(place).copied() else {
-                break;
-            };
-            let brought = self.brought(outside, &mut walk, import, question)?;
-            found = found.join(brought);
-        }
-        Ok(found)
-    }
-
-    /// What an import by `*` brings in under a name. The imports by `*` of a module that it brings in are looked at later.
-    fn brought(
-        &self,
-        outside: &mut OutsidePaths,
-        walk: &mut GlobWalk,
-        number: ImportNo,
-        question: Question,
-    ) -> Result<Found, AllocError> {
-        let Some(import) = self.import(number) else {
-            return Ok(Found::NOTHING);
-        };
-        let is_sure = import.is_sure;
-        let seen_here = Question {
-            viewer: import.module,
-            ..question
-        };
-        match self.answer(number, Namespace::Type) {
-            Meaning::Nothing => Ok(Found::NOTHING),
-            Meaning::Unknown => Ok(self.unread(question)),
-            Meaning::One(Definition::Module(module)) => {
-                let explicit = self.explicit(module, seen_here);
-                if explicit.is_sure {
-                    return Ok(Found::of(explicit.meaning, is_sure));
-                }
-                if self.hides_globs(module, seen_here) {
-                    return Ok(self.unread(question));
-                }
-                self.add_globs(walk, module, seen_here)?;
-                let found = explicit.join(self.if_open(module, seen_here));
-                Ok(Found::of(found.meaning, false))
-            }
-            Meaning::One(Definition::Item(item)) if !self.has_variants(item) => {
-                Ok(self.unread(question))
-            }
-            Meaning::One(Definition::Item(item)) => {
-                let meaning = self.variant(item, question.name);
-                Ok(Found::of(meaning, is_sure && !self.is_unsure_variant(meaning)))
-            }
-            Meaning::One(Definition::Outside(path)) => {
-                let meaning = self.outside_glob(outside, path, question)?;
-                Ok(Found::of(meaning, is_sure))
-            }
-            Meaning::One(Definition::Member(_, _)) => Ok(self.unread(question)),
-        }
-    }
-
-    /// Whether a module has something under a name that isn't seen, which hides what comes in by `*` there.
-    fn hides_globs(&self, module: ModuleNo, question: Question) -> bool {
-        !self.globs_of(module).is_empty()
-            && self
-                .entries(module, question.name, question.namespace)
-                .iter()
-                .any(|entry| !self.is_seen(entry.visibility, question.viewer))
-    }
-
-    /// Whether a meaning is a variant that isn't there in each configuration.
-    fn is_unsure_variant(&self, meaning: Meaning) -> bool {
-        match meaning {
-            Meaning::One(Definition::Item(item)) => {
-                self.unsure_variants.binary_search(&item).is_ok()
-            }
-            _ => false,
-        }
-    }
-
-    /// Whether an item has variants that are read: those of an enum that a macro declares aren't.
-    fn has_variants(&self, item: ItemNo) -> bool {
-        let first = self.members.partition_point(|member| member.of < item);
-        let past = self.members.partition_point(|member| member.of <= item);
-        between(&self.members, first, past).iter().any(|member| self.kind_of(member.item)
-            == Some(ItemKind::Variant))
-    }
-
-    /// The variant of an enum with a name.
-    fn variant(&self, item: ItemNo, name: Name) -> Meaning {
-        match self.members_of(item, name).first() {
-            Some(member) if self.kind_of(member.item) == Some(ItemKind::Variant) => {
-                Meaning::One(Definition::Item(self.first_item(member.item)))
-            }
-            _ => Meaning::Nothing,
-        }
-    }
-
-    fn kind_of(&self, item: ItemNo) -> Option<ItemKind> {
+    pub(crate) fn kind_of(&self, item: ItemNo) -> Option<ItemKind> {
         Some(self.item(item)?.kind)
     }
 
-    /// What `*` brings in under a name of a path that isn't read.
-    fn outside_glob(
-        &self,
-        outside: &mut OutsidePaths,
-        path: OutsideNo,
-        question: Question,
-    ) -> Result<Meaning, AllocError> {
-        let unread = self.unread(question).meaning;
-        let Some(row) = outside.path(path) else {
-            return Ok(unread);
-        };
-        let Some(parent) = row.parent else {
-            return Ok(unread);
-        };
-        let Some(above) = outside.path(parent) else {
-            return Ok(unread);
-        };
-        let is_in_std = above.parent.is_none() == (parent == self.std)
-            && self.is_in_std(outside, parent);
-        let Some(names) = brought_by_glob(self.text(above.name), self.text(row.name)) else {
-            return Ok(unread);
-        };
-        if !is_in_std {
-            return Ok(unread);
-        }
-        if !names.contains(&self.text(question.name)) {
-            return Ok(Meaning::Nothing);
-        }
-        let number = outside.child(Some(path), question.name)?;
-        Ok(Meaning::One(Definition::Outside(number)))
-    }
-
-    /// Whether a path is the standard library, or one of its modules.
-    fn is_in_std(&self, outside: &OutsidePaths, path: OutsideNo) -> bool {
-        if path == self.std {
-            return true;
-        }
-        match outside.path(path) {
-            Some(row) => row.parent == Some(self.std),
-            None => false,
-        }
-    }
-
     /// Whether nothing that is found behind this can be meant.
-    fn hides_all(&self, outside: &OutsidePaths, found: Found) -> bool {
+    fn hides_all(&self, outside: &OutsidePaths, found: Found) -> bool
+        ensures { result ≡ true → found.is_sure ≡ true }
+    {
         found.is_sure && !self.may_lack_name(outside, found.meaning)
     }
 
@@ -433,7 +325,9 @@ impl<'a> Space<'a> {
         outside: &mut OutsidePaths,
         module: ModuleNo,
         question: Question,
-    ) -> Result<Found, AllocError> {
+    ) -> Result<Found, AllocError>
+        ensures { IfOk result (IsInModule self.now «module» question) }
+    {
         let explicit = self.explicit(module, question);
         if self.hides_all(outside, explicit) {
             return Ok(explicit);
@@ -449,380 +343,22 @@ impl<'a> Space<'a> {
         outside: &mut OutsidePaths,
         module: ModuleNo,
         question: Question,
-    ) -> Result<Found, AllocError> {
+    ) -> Result<Found, AllocError>
+        ensures { IfOk result (IsAround self.now question «module») }
+    {
         let mut found = Found::NOTHING;
         let mut at = module;
-        for _ in 0..self.table.modules.len() {
+        for step in 0..self.table.modules.len() {
             let here = self.in_module(alloc, outside, at, question)?;
             found = found.hiding(here);
-            let Some(row) = self.module(at) else {
-                break;
-            };
-            match row.parent {
-                Some(parent) if row.kind == ModuleKind::Block && !self.hides_all(outside, found) =>
-                    { at = parent }
-                _ => break,
+            if self.hides_all(outside, found) {
+                return Ok(found);
             }
+            let Some(up) = self.around_block(at) else {
+                return Ok(found);
+            };
+            at = up;
         }
         Ok(found)
-    }
-
-    /// The crate of a name.
-    fn as_crate(&self, question: Question) -> Meaning {
-        match self.crate_named(question.name) {
-            Some(definition) if question.namespace == Namespace::Type => Meaning::One(definition),
-            _ => Meaning::Nothing,
-        }
-    }
-
-    /// The builtin type of a name.
-    fn as_builtin(&self, question: Question) -> Meaning {
-        match self.builtin_type(question.name) {
-            Some(definition) if question.namespace == Namespace::Type => Meaning::One(definition),
-            _ => Meaning::Nothing,
-        }
-    }
-
-    /// What a name stands for that nothing around has: a crate, what the prelude has, a builtin type.
-    pub(crate) fn everywhere(
-        &self,
-        outside: &mut OutsidePaths,
-        module: ModuleNo,
-        question: Question,
-    ) -> Result<Meaning, AllocError> {
-        let as_crate = self.as_crate(question);
-        if as_crate.is_something() {
-            return Ok(as_crate);
-        }
-        let prelude = self.prelude(outside, module, question.name, question.namespace)?;
-        if prelude.is_something() {
-            return Ok(prelude);
-        }
-        Ok(self.as_builtin(question))
-    }
-
-    /// What the first name of a path stands for, where that begins with a name. An import of the first edition begins in the
-    /// root; where the edition isn't known, both have to agree.
-    fn first_name(
-        &self,
-        alloc: Global,
-        outside: &mut OutsidePaths,
-        module: ModuleNo,
-        question: Question,
-        is_import: bool,
-    ) -> Result<Meaning, AllocError> {
-        let edition = self.edition(module);
-        if is_import && edition == Some(Edition::Edition2015) {
-            return self.from_root(alloc, outside, module, question);
-        }
-        let around = self.from_here(alloc, outside, module, question)?;
-        if !is_import || edition.is_some() {
-            return Ok(around);
-        }
-        let root = self.from_root(alloc, outside, module, question)?;
-        if root == around {
-            Ok(around)
-        } else {
-            Ok(Meaning::Unknown)
-        }
-    }
-
-    /// What a name stands for that is looked up outward, and then where names are known everywhere.
-    fn from_here(
-        &self,
-        alloc: Global,
-        outside: &mut OutsidePaths,
-        module: ModuleNo,
-        question: Question,
-    ) -> Result<Meaning, AllocError> {
-        let around = self.outward(alloc, outside, module, question)?;
-        if around.is_sure {
-            return Ok(around.meaning);
-        }
-        let everywhere = self.everywhere(outside, module, question)?;
-        Ok(around.meaning.join(everywhere))
-    }
-
-    /// What a name stands for that is looked up in the root, and then among crates.
-    fn from_root(
-        &self,
-        alloc: Global,
-        outside: &mut OutsidePaths,
-        module: ModuleNo,
-        question: Question,
-    ) -> Result<Meaning, AllocError> {
-        let root = self.in_module(alloc, outside, self.root_of(module), question)?;
-        if root.is_sure {
-            return Ok(root.meaning);
-        }
-        Ok(root.meaning.join(self.as_crate(question)))
-    }
-
-    /// What a name behind `::` at the beginning stands for.
-    fn global_name(
-        &self,
-        alloc: Global,
-        outside: &mut OutsidePaths,
-        module: ModuleNo,
-        question: Question,
-    ) -> Result<Meaning, AllocError> {
-        match self.edition(module) {
-            Some(Edition::Edition2015) => self.from_root(alloc, outside, module, question),
-            Some(_) => Ok(self.as_crate(question)),
-            None => Ok(Meaning::Unknown),
-        }
-    }
-
-    /// What a name behind a type stands for: its variant, its one associated item, or what has that name.
-    fn behind_item(&self, item: ItemNo, name: Name) -> Meaning {
-        let Some(row) = self.item(item) else {
-            return Meaning::Unknown;
-        };
-        match row.kind {
-            ItemKind::Struct | ItemKind::Enum | ItemKind::Union | ItemKind::Trait => {
-                match self.members_of(item, name) {
-                    [member] => Meaning::One(Definition::Item(self.first_item(member.item))),
-                    _ => Meaning::One(Definition::Member(item, name)),
-                }
-            }
-            ItemKind::TypeAlias => Meaning::Unknown,
-            _ => Meaning::Nothing,
-        }
-    }
-
-    /// What a definition is, where that is a type alias what it is an alias of.
-    pub(crate) fn unaliased(&self, definition: Definition) -> Meaning {
-        match definition {
-            Definition::Item(item) => match self.item(item) {
-                Some(row) if row.kind == ItemKind::TypeAlias && row.owner == Owner::Module => {
-                    self.aliased(item)
-                }
-                _ => Meaning::One(definition),
-            },
-            _ => Meaning::One(definition),
-        }
-    }
-
-    /// What a name behind a path that isn't read stands for.
-    fn behind_outside(
-        &self,
-        outside: &mut OutsidePaths,
-        path: OutsideNo,
-        name: Name,
-    ) -> Result<Meaning, AllocError> {
-        let parent = match self.type_of_module(outside, path) {
-            Some(builtin) if !is_in_type_module(self.text(name)) => builtin,
-            _ => path,
-        };
-        let number = outside.child(Some(parent), name)?;
-        Ok(Meaning::One(Definition::Outside(number)))
-    }
-
-    /// The builtin type that a module of the standard library is named as.
-    pub(crate) fn type_of_module(
-        &self,
-        outside: &OutsidePaths,
-        path: OutsideNo,
-    ) -> Option<OutsideNo> {
-        let row = outside.path(path)?;
-        if row.parent != Some(self.std) || !is_builtin_type(self.text(row.name)) {
-            return None;
-        }
-        match self.builtin_type(row.name) {
-            Some(Definition::Outside(number)) => Some(number),
-            _ => None,
-        }
-    }
-
-    /// What a name behind a definition stands for.
-    pub(crate) fn behind(
-        &self,
-        alloc: Global,
-        outside: &mut OutsidePaths,
-        definition: Definition,
-        question: Question,
-    ) -> Result<Meaning, AllocError> {
-        let Meaning::One(plain) = self.unaliased(definition) else {
-            return Ok(Meaning::Unknown);
-        };
-        match plain {
-            Definition::Module(module) => {
-                let found = self.in_module(alloc, outside, module, question)?;
-                Ok(found.meaning)
-            }
-            Definition::Item(item) => Ok(self.behind_item(item, question.name)),
-            Definition::Outside(path) => self.behind_outside(outside, path, question.name),
-            Definition::Member(_, _) => Ok(Meaning::Unknown),
-        }
-    }
-
-    /// The module that a path begins in, where it doesn't begin with a name.
-    fn base(&self, start: Start, module: ModuleNo) -> Option<ModuleNo> {
-        match start {
-            Start::Plain | Start::Global => None,
-            Start::Crate => Some(self.root_of(module)),
-            Start::SelfModule => Some(self.plain_module(module)),
-            Start::Super(count) => {
-                let mut at = self.plain_module(module);
-                for _ in 0..count {
-                    at = self.parent_module(at)?;
-                }
-                Some(at)
-            }
-        }
-    }
-
-    /// Whether a path begins outside of a file of which no crate is known: at the root of its crate, or above its own module.
-    fn begins_outside(&self, start: Start, module: ModuleNo) -> bool {
-        let is_stray = match self.module(self.root_of(module)) {
-            Some(root) => root.kind == ModuleKind::Stray,
-            None => true,
-        };
-        match start {
-            Start::Crate => is_stray,
-            Start::Super(_) => is_stray && self.base(start, module).is_none(),
-            _ => false,
-        }
-    }
-
-    /// What the first name of a path stands for.
-    fn first(
-        &self,
-        alloc: Global,
-        outside: &mut OutsidePaths,
-        path: PathQuestion<'_>,
-        question: Question,
-    ) -> Result<Meaning, AllocError> {
-        let is_import = path.import.is_some();
-        match path.start {
-            Start::Plain => self.first_name(alloc, outside, path.module, question, is_import),
-            Start::Global => self.global_name(alloc, outside, path.module, question),
-            start if self.begins_outside(start, path.module) => Ok(Meaning::Unknown),
-            _ => match self.base(path.start, path.module) {
-                Some(base) => {
-                    let found = self.in_module(alloc, outside, base, question)?;
-                    Ok(found.meaning)
-                }
-                None => Ok(Meaning::Nothing),
-            },
-        }
-    }
-
-    /// What the names of a path in front of the last one stand for.
-    pub(crate) fn front(
-        &self,
-        alloc: Global,
-        outside: &mut OutsidePaths,
-        path: PathQuestion<'_>,
-    ) -> Result<Front, AllocError> {
-        self.front_from(alloc, outside, path, Front::Empty)
-    }
-
-    /// What the names of a path in front of the last one stand for, where those in front of them stand for this.
-    fn front_from(
-        &self,
-        alloc: Global,
-        outside: &mut OutsidePaths,
-        path: PathQuestion<'_>,
-        start: Front,
-    ) -> Result<Front, AllocError> {
-        let Some((_, names)) = path.names.split_last() else {
-            return Ok(start);
-        };
-        let mut front = start;
-        for name in names {
-            let step = Step {
-                name: *name,
-                namespace: Namespace::Type,
-            };
-            let answer = self.next(alloc, outside, path, front, step)?;
-            let Meaning::One(definition) = answer.meaning else {
-                return Ok(Front::Ended(answer));
-            };
-            front = Front::Behind(definition);
-        }
-        Ok(front)
-    }
-
-    /// What one more name of a path stands for.
-    fn next(
-        &self,
-        alloc: Global,
-        outside: &mut OutsidePaths,
-        path: PathQuestion<'_>,
-        front: Front,
-        step: Step,
-    ) -> Result<PathAnswer, AllocError> {
-        let question = Question {
-            name: step.name,
-            namespace: step.namespace,
-            viewer: path.module,
-            skipped: path.import,
-        };
-        let meaning = match front {
-            Front::Empty => self.first(alloc, outside, path, question)?,
-            Front::Behind(definition) => self.behind(alloc, outside, definition, question)?,
-            Front::Ended(answer) => return Ok(answer),
-        };
-        Ok(PathAnswer {
-            meaning,
-            name: Some(step.name),
-        })
-    }
-
-    /// What a path stands for in a namespace, where it is known what the names in front of the last one stand for.
-    pub(crate) fn end(
-        &self,
-        alloc: Global,
-        outside: &mut OutsidePaths,
-        path: PathQuestion<'_>,
-        front: Front,
-    ) -> Result<PathAnswer, AllocError> {
-        let Some(name) = path.names.last() else {
-            return Ok(PathAnswer {
-                meaning: self.base_meaning(path),
-                name: None,
-            });
-        };
-        let step = Step {
-            name: *name,
-            namespace: path.namespace,
-        };
-        self.next(alloc, outside, path, front, step)
-    }
-
-    /// What a path without names stands for.
-    fn base_meaning(&self, path: PathQuestion<'_>) -> Meaning {
-        if self.begins_outside(path.start, path.module) {
-            return Meaning::Unknown;
-        }
-        match self.base(path.start, path.module) {
-            Some(base) => Meaning::One(Definition::Module(base)),
-            None => Meaning::Nothing,
-        }
-    }
-
-    /// What the names of a path stand for behind a definition.
-    pub(crate) fn path_behind(
-        &self,
-        alloc: Global,
-        outside: &mut OutsidePaths,
-        path: PathQuestion<'_>,
-        definition: Definition,
-    ) -> Result<Meaning, AllocError> {
-        let front = self.front_from(alloc, outside, path, Front::Behind(definition))?;
-        let answer = self.end(alloc, outside, path, front)?;
-        Ok(answer.meaning)
-    }
-
-    /// What a path stands for.
-    pub(crate) fn path(
-        &self,
-        alloc: Global,
-        outside: &mut OutsidePaths,
-        path: PathQuestion<'_>,
-    ) -> Result<PathAnswer, AllocError> {
-        let front = self.front(alloc, outside, path)?;
-        self.end(alloc, outside, path, front)
     }
 }

@@ -1,9 +1,16 @@
 //! What the names of macros stand for.
 
+ghost use Rattle.std.specs.Prelude.{◌≡◌, ◌⊎◌, [], ◌∷◌, IfOk, IfSome};
+ghost use Rattle.ssr_names.specs.Private.Meanings.{Means};
+ghost use Rattle.ssr_names.specs.Lookup.{IsOutside};
+ghost use Rattle.ssr_names.specs.Private.Answered.{place_of};
+ghost use Rattle.ssr_names.specs.WholePaths.{IsSeenMacro, WholeStandsFor};
+ghost use Rattle.ssr_names.specs.Private.Macros.{IsAsType, IsMacro, IsOwnMacro};
+
 use crate::definitions::{Definition, Meaning};
 use crate::lookup::{PathAnswer, PathQuestion};
 use crate::outside::OutsidePaths;
-use crate::space::{Space, known_all};
+use crate::space::{Space, known_all, known_as};
 use crate::std_names::{has_no_std_macros, is_std_macro};
 use ssr_base_trees::NodeId;
 use ssr_names_items::{ItemNo, ModuleNo, Name, Namespace, Start, Thing};
@@ -19,11 +26,13 @@ enum OwnMacros {
 
 impl<'a> Space<'a> {
     /// The macros of the run with a name.
-    fn own_macros(&self, name: Name) -> OwnMacros {
-        match known_all(&self.macros, name) {
-            [] => OwnMacros::None,
-            [known] => match known.definition {
-                Definition::Item(item) => OwnMacros::One(item),
+    fn own_macros(&self, name: Name) -> OwnMacros
+        ensures { IsOwnMacro self.now name result }
+    {
+        match known_all(&self.macros, name).len() {
+            0 => OwnMacros::None,
+            1 => match known_as(&self.macros, name) {
+                Some(Definition::Item(item)) => OwnMacros::One(item),
                 _ => OwnMacros::Several,
             },
             _ => OwnMacros::Several,
@@ -41,7 +50,9 @@ impl<'a> Space<'a> {
         outside: &mut OutsidePaths,
         of: Option<Definition>,
         name: Name,
-    ) -> Result<Meaning, AllocError> {
+    ) -> Result<Meaning, AllocError>
+        ensures { IfOk result (λ found. Means found IsOutside) }
+    {
         let Some(Definition::Outside(root)) = of else {
             return Ok(Meaning::Unknown);
         };
@@ -63,7 +74,9 @@ impl<'a> Space<'a> {
         outside: &mut OutsidePaths,
         module: ModuleNo,
         name: Name,
-    ) -> Result<Meaning, AllocError> {
+    ) -> Result<Meaning, AllocError>
+        ensures { IfOk result (λ found. Means found IsOutside) }
+    {
         if is_std_macro(self.text(name)) {
             if !self.are_std_macros_seen(module) {
                 return Ok(Meaning::Unknown);
@@ -83,7 +96,9 @@ impl<'a> Space<'a> {
         outside: &mut OutsidePaths,
         path: PathQuestion<'_>,
         name: Name,
-    ) -> Result<Meaning, AllocError> {
+    ) -> Result<Meaning, AllocError>
+        ensures { IfOk result (λ found. Means found (IsMacro self.now path.entry name)) }
+    {
         if self.may_be_declared(path.module, name) {
             return Ok(Meaning::Unknown);
         }
@@ -126,14 +141,15 @@ impl<'a> Space<'a> {
 
     /// Whether a module may have a macro of this name that isn't read.
     fn has_unknown_macro(&self, module: ModuleNo, name: Name) -> bool {
-        self.entries(module, name, Namespace::Macro)
-            .iter()
-            .any(|entry| entry.thing == Thing::Unknown)
+        self.entries(module, name).iter().any(|entry| entry.namespace == Namespace::Macro
+            && entry.thing == Thing::Unknown)
     }
 
     /// What a macro's name stands for that some import brings in: an import of another crate's function or module brings in no
     /// macro, and leaves the standard library's.
-    fn imported_macro(&self, outside: &OutsidePaths, meaning: Meaning, name: Name) -> Meaning {
+    fn imported_macro(&self, outside: &OutsidePaths, meaning: Meaning, name: Name) -> Meaning
+        ensures { Means result (λ d. meaning ≡ Meaning.One d) }
+    {
         match meaning {
             Meaning::One(definition)
                 if is_std_macro(self.text(name)) && !self.is_of_std(outside, definition) => {
@@ -156,7 +172,9 @@ impl<'a> Space<'a> {
 
     /// What the name of a macro of the run stands for in a module, where there is only that one: it is seen in its own module
     /// and below.
-    fn one_macro(&self, item: ItemNo, module: ModuleNo) -> Meaning {
+    fn one_macro(&self, item: ItemNo, module: ModuleNo) -> Meaning
+        ensures { Means result (IsSeenMacro self.now «module» item) }
+    {
         match self.item(item) {
             Some(row) if self.is_within(module, row.module) => {
                 Meaning::One(Definition::Item(item))
@@ -167,7 +185,9 @@ impl<'a> Space<'a> {
 
     /// What a macro's name stands for where a node is, if it stands for this in the module: a macro of the run isn't seen in front of
     /// its own item, and where the standard library has one of its name that is seen there.
-    pub(crate) fn macro_at(&self, node: NodeId, meaning: Meaning) -> Meaning {
+    pub(crate) fn macro_at(&self, node: NodeId, meaning: Meaning) -> Meaning
+        ensures { Means result (λ d. meaning ≡ Meaning.One d) }
+    {
         let Meaning::One(Definition::Item(item)) = meaning else {
             return meaning;
         };
@@ -185,37 +205,99 @@ impl<'a> Space<'a> {
         alloc: Global,
         outside: &mut OutsidePaths,
         path: PathQuestion<'_>,
-    ) -> Result<PathAnswer, AllocError> {
-        if let (Start::Plain, Namespace::Macro, [name]) = (path.start, path.namespace, path.names) {
-            return Ok(PathAnswer {
-                meaning: self.macro_named(alloc, outside, path, *name)?,
-                name: Some(*name),
-            });
+    ) -> Result<PathAnswer, AllocError>
+        ensures { IfOk result (λ answer. Means answer.meaning (WholeStandsFor self.now (place_of path.entry) path.entry.namespace path.entry.names.now)) }
+    {
+        match lone_macro(path) {
+            Some(name) => self.macro_answer(alloc, outside, path, name),
+            None => self.typed_path(alloc, outside, path),
         }
-        let answer = self.path(alloc, outside, path)?;
-        if path.namespace != Namespace::Type {
-            return Ok(answer);
-        }
+    }
+
+    /// What a macro's name alone stands for, and the name.
+    fn macro_answer(
+        &self,
+        alloc: Global,
+        outside: &mut OutsidePaths,
+        path: PathQuestion<'_>,
+        name: Name,
+    ) -> Result<PathAnswer, AllocError>
+        ensures { IfOk result (λ answer. Means answer.meaning (IsMacro self.now path.entry name)) }
+    {
+        let meaning = self.macro_named(alloc, outside, path, name)?;
         Ok(PathAnswer {
-            meaning: self.as_type(outside, answer.meaning),
-            ..answer
+            meaning,
+            name: Some(name),
         })
     }
 
-    /// What stands for a type where a definition does.
-    pub(crate) fn as_type(&self, outside: &OutsidePaths, meaning: Meaning) -> Meaning {
+    /// What a path stands for, where a type is wanted what stands for a type.
+    fn typed_path(
+        &self,
+        alloc: Global,
+        outside: &mut OutsidePaths,
+        path: PathQuestion<'_>,
+    ) -> Result<PathAnswer, AllocError>
+        ensures { IfOk result (λ answer. Means answer.meaning (WholeStandsFor self.now (place_of path.entry) path.entry.namespace path.entry.names.now)) }
+    {
+        let answer = self.path(alloc, outside, path)?;
+        match path.namespace {
+            Namespace::Type => Ok(PathAnswer {
+                meaning: self.as_type(outside, answer.meaning),
+                ..answer
+            }),
+            _ => Ok(answer),
+        }
+    }
+
+    /// What stands for a type where a meaning does.
+    pub(crate) fn as_type(&self, outside: &OutsidePaths, meaning: Meaning) -> Meaning
+        ensures { Means result (IsAsType meaning) }
+    {
         match meaning {
-            Meaning::One(Definition::Outside(path)) => match self.type_of_module(outside, path) {
-                Some(builtin) => Meaning::One(Definition::Outside(builtin)),
-                None => meaning,
-            },
+            Meaning::One(definition) => Meaning::One(self.type_for(outside, definition)),
             _ => meaning,
+        }
+    }
+
+    /// What stands for a type where a definition does.
+    fn type_for(&self, outside: &OutsidePaths, definition: Definition) -> Definition
+        ensures { (result ≡ definition) ⊎ (IsOutside definition × IsOutside result) }
+    {
+        match definition {
+            Definition::Outside(path) => match self.type_of_module(outside, path) {
+                Some(builtin) => Definition::Outside(builtin),
+                None => definition,
+            },
+            _ => definition,
         }
     }
 }
 
+/// The name of a macro that a path is alone.
+fn lone_macro(path: PathQuestion<'_>) -> Option<Name>
+    ensures { IfSome result (λ name. (path.entry.start ≡ Start.Plain) × (path.entry.namespace ≡ Namespace.Macro) × (path.entry.names.now ≡ name ∷ [])) }
+{
+    match (path.start, path.namespace) {
+        (Start::Plain, Namespace::Macro) => only_name(path.names),
+        _ => None,
+    }
+}
+
+/// The one name of these.
+fn only_name(names: &[Name]) -> Option<Name>
+    ensures { IfSome result (λ name. names.now ≡ name ∷ []) }
+{
+    match names.last() {
+        Some(name) if names.len() == 1 => Some(*name),
+        _ => None,
+    }
+}
+
 /// A meaning that is there: what is found nowhere is unknown.
-fn known(meaning: Meaning) -> Meaning {
+fn known(meaning: Meaning) -> Meaning
+    ensures { Means result (λ d. meaning ≡ Meaning.One d) }
+{
     match meaning {
         Meaning::Nothing => Meaning::Unknown,
         _ => meaning,

@@ -4,6 +4,7 @@ ghost use Rattle.ssr_syntax_tree.specs.declared.number.Element.{Element};
 ghost use Rattle.std.specs.Option.{option_map};
 ghost use Rattle.ssr_syntax_tree.specs.Places.{HasElement, HasNode, elements_of, node_of};
 ghost use Rattle.ssr_base_trees.specs.Workspace.{trees as placed};
+ghost use Rattle.ssr_names.specs.Told.{namespace_of};
 ghost use Rattle.ssr_names.specs.Locals.{is_in_call, is_in_value, is_value, is_parameter, kind_at, lone_name, plain_name, value_name, HasParameter, HasParameterAt, IsParameter};
 
 use crate::code_paths::{is_alone, last_text, text_of_first};
@@ -186,6 +187,7 @@ fn is_in_value(tree: &Tree, path: NodeNo) -> bool
 /// The namespace of a path's last name, by what the path stands in.
 pub(crate) fn namespace_of(tree: &Tree, path: NodeNo) -> Namespace
     requires { HasNode tree.now path.0 }
+    ensures { result ≡ namespace_of tree.now path.0 }
 {
     let Some(parent) = tree.parent(path) else {
         return Namespace::Type;

@@ -1,6 +1,11 @@
 //! The names of a run, made ready to be looked up.
 
-use crate::copies::{first_items, module_places};
+ghost use Rattle.std.specs.Prelude.{◌≡◌, true, [], slice_get, IfOk, IfSome, OnOk, All};
+ghost use Rattle.ssr_names_items.specs.Names.{KeepsNumbers};
+ghost use Rattle.ssr_names.specs.Lookup.{IsOutside};
+ghost use Rattle.ssr_names.specs.Declarations.{AreFirst, IsCrate, IsMacroItem, HasMembers, IsMember, IsOfTable};
+
+use crate::copies::{first_items, item_count, item_row, module_places};
 use crate::definitions::{Definition, Meaning, OutsideNo};
 use crate::outside::OutsidePaths;
 use crate::space::{Answers, Glob, Known, Member, Space};
@@ -12,7 +17,9 @@ use ssr_names_items::{
 use std::alloc::{AllocError, Global};
 
 /// Adds names.
-fn add_texts(names: &mut Names, texts: &[&'static str]) -> Result<(), AllocError> {
+fn add_texts(names: &mut Names, texts: &[&'static str]) -> Result<(), AllocError>
+    ensures { OnOk result (KeepsNumbers names.old names.new) }
+{
     for text in texts {
         names.add(*text)?;
     }
@@ -20,7 +27,9 @@ fn add_texts(names: &mut Names, texts: &[&'static str]) -> Result<(), AllocError
 }
 
 /// Adds the names that the prelude has, and those of what they stand in.
-fn add_prelude(names: &mut Names, prelude: &[PreludeName]) -> Result<(), AllocError> {
+fn add_prelude(names: &mut Names, prelude: &[PreludeName]) -> Result<(), AllocError>
+    ensures { OnOk result (KeepsNumbers names.old names.new) }
+{
     for known in prelude {
         names.add(known.name)?;
         names.add(known.module)?;
@@ -30,7 +39,9 @@ fn add_prelude(names: &mut Names, prelude: &[PreludeName]) -> Result<(), AllocEr
 }
 
 /// Adds the names that second paths are made of.
-fn add_second_names(names: &mut Names, seconds: &[SecondPath]) -> Result<(), AllocError> {
+fn add_second_names(names: &mut Names, seconds: &[SecondPath]) -> Result<(), AllocError>
+    ensures { OnOk result (KeepsNumbers names.old names.new) }
+{
     for second in seconds {
         names.add(second.modules.0)?;
         names.add(second.modules.1)?;
@@ -41,7 +52,9 @@ fn add_second_names(names: &mut Names, seconds: &[SecondPath]) -> Result<(), All
 }
 
 /// Adds the names that the standard library is known by, so that they have numbers.
-pub(crate) fn add_std_names(names: &mut Names) -> Result<(), AllocError> {
+pub(crate) fn add_std_names(names: &mut Names) -> Result<(), AllocError>
+    ensures { OnOk result (KeepsNumbers names.old names.new) }
+{
     names.add("")?;
     names.add("std")?;
     names.add("core")?;
@@ -89,19 +102,31 @@ fn builtin_types(
     alloc: Global,
     outside: &mut OutsidePaths,
     names: &Names,
-) -> Result<Vec<Known>, AllocError> {
+) -> Result<Vec<Known>, AllocError>
+    ensures { IfOk result (λ known. All (λ k. IsOutside k.definition) known.items) }
+{
     let root = outside.child(None, number(names, ""))?;
     let mut known = Vec::new(alloc);
     for text in BUILTIN_TYPES.iter() {
-        let name = number(names, *text);
-        let path = outside.child(Some(root), name)?;
-        known.push(Known {
-            name,
-            definition: Definition::Outside(path),
-        })?;
+        known.push(builtin_type(outside, root, number(names, *text))?)?;
     }
     known.sort()?;
     Ok(known)
+}
+
+/// The builtin type of a name, behind the path of all of them.
+fn builtin_type(
+    outside: &mut OutsidePaths,
+    root: OutsideNo,
+    name: Name,
+) -> Result<Known, AllocError>
+    ensures { IfOk result (λ known. IsOutside known.definition) }
+{
+    let path = outside.child(Some(root), name)?;
+    Ok(Known {
+        name,
+        definition: Definition::Outside(path),
+    })
 }
 
 /// The path of a crate that isn't read.
@@ -110,7 +135,9 @@ fn outside_crate(
     names: &Names,
     std: OutsideNo,
     name: Name,
-) -> Result<Known, AllocError> {
+) -> Result<Known, AllocError>
+    ensures { IfOk result (λ known. IsOutside known.definition) }
+{
     let path = if is_std(names.text(name)) {
         std
     } else {
@@ -130,7 +157,22 @@ fn crates(
     table: &Table,
     std: OutsideNo,
     manifests: &[Name],
-) -> Result<Vec<Known>, AllocError> {
+) -> Result<Vec<Known>, AllocError>
+    ensures { IfOk result (λ known. All (IsCrate table.now) known.items) }
+{
+    let mut known = libraries(alloc, table)?;
+    for name in foreign_names(alloc, table, manifests)? {
+        known.push(outside_crate(outside, &table.names, std, name)?)?;
+    }
+    known.sort()?;
+    known.dedup();
+    Ok(known)
+}
+
+/// The libraries that are read.
+fn libraries(alloc: Global, table: &Table) -> Result<Vec<Known>, AllocError>
+    ensures { IfOk result (λ known. All (IsCrate table.now) known.items) }
+{
     let mut known = Vec::new(alloc);
     for own in &table.crates {
         if own.kind == CrateKind::Library {
@@ -140,20 +182,25 @@ fn crates(
             })?;
         }
     }
-    for name in manifests {
-        known.push(outside_crate(outside, &table.names, std, *name)?)?;
-    }
+    Ok(known)
+}
+
+/// The names of crates that aren't read: of those that a manifest names, and of those that the code names itself.
+fn foreign_names(
+    alloc: Global,
+    table: &Table,
+    manifests: &[Name],
+) -> Result<Vec<Name>, AllocError> {
+    let mut names = Vec::from_slice(alloc, manifests)?;
     for of in &table.macro_crates {
-        known.push(outside_crate(outside, &table.names, std, of.name)?)?;
+        names.push(of.name)?;
     }
     for entry in &table.entries {
         if let Thing::Crate(name) = entry.thing {
-            known.push(outside_crate(outside, &table.names, std, name)?)?;
+            names.push(name)?;
         }
     }
-    known.sort()?;
-    known.dedup();
-    Ok(known)
+    Ok(names)
 }
 
 /// The imports that bring in all of something.
@@ -201,23 +248,39 @@ fn type_names(alloc: Global, table: &Table) -> Result<Vec<Name>, AllocError> {
     Ok(names)
 }
 
+/// The first item of those that stand where an item does.
+fn first_of(firsts: &[ItemNo], item: ItemNo) -> Option<ItemNo>
+    ensures { result ≡ slice_get firsts.now item.0 }
+{
+    firsts.get(item.0 as usize).copied()
+}
+
 /// An item as a member of the item that it is a part of.
-fn member_at(firsts: &[ItemNo], item: &Item, place: usize) -> Option<Member> {
-    let Owner::Item(ItemNo(of)) = item.owner else {
+fn member_at(table: &Table, firsts: &[ItemNo], number: u32) -> Option<Member>
+    requires { AreFirst table.now firsts.now }
+    ensures { IfSome result (IsMember table.now) }
+{
+    let item = item_row(table, ItemNo(number))?;
+    let Owner::Item(owner) = item.owner else {
         return None;
     };
+    let of = first_of(firsts, owner)?;
+    let first = first_of(firsts, ItemNo(number))?;
     Some(Member {
-        of: *firsts.get(of as usize)?,
+        of,
         name: item.name,
-        item: *firsts.get(place)?,
+        item: first,
     })
 }
 
 /// The variants of enums, and the items of traits.
-fn members(alloc: Global, table: &Table, firsts: &[ItemNo]) -> Result<Vec<Member>, AllocError> {
+fn members(alloc: Global, table: &Table, firsts: &[ItemNo]) -> Result<Vec<Member>, AllocError>
+    requires { AreFirst table.now firsts.now }
+    ensures { IfOk result (λ members. All (IsMember table.now) members.items) }
+{
     let mut members = Vec::new(alloc);
-    for (place, item) in table.items.iter().enumerate() {
-        if let Some(member) = member_at(firsts, item, place) {
+    for number in 0..item_count(table) {
+        if let Some(member) = member_at(table, firsts, number) {
             members.push(member)?;
         }
     }
@@ -226,17 +289,38 @@ fn members(alloc: Global, table: &Table, firsts: &[ItemNo]) -> Result<Vec<Member
     Ok(members)
 }
 
+/// Whether an item is a macro.
+fn is_macro(item: Item) -> bool
+    ensures { result ≡ true → item.kind ≡ ItemKind.Macro }
+{
+    item.kind == ItemKind::Macro
+}
+
+/// An item as a macro of the run, if it is one.
+fn macro_at(table: &Table, firsts: &[ItemNo], number: u32) -> Option<Known>
+    requires { AreFirst table.now firsts.now }
+    ensures { IfSome result (IsMacroItem table.now) }
+{
+    let item = item_row(table, ItemNo(number))?;
+    if !is_macro(item) {
+        return None;
+    }
+    let first = first_of(firsts, ItemNo(number))?;
+    Some(Known {
+        name: item.name,
+        definition: Definition::Item(first),
+    })
+}
+
 /// The macros of the run.
-fn macros(alloc: Global, table: &Table, firsts: &[ItemNo]) -> Result<Vec<Known>, AllocError> {
+fn macros(alloc: Global, table: &Table, firsts: &[ItemNo]) -> Result<Vec<Known>, AllocError>
+    requires { AreFirst table.now firsts.now }
+    ensures { IfOk result (λ macros. All (IsMacroItem table.now) macros.items) }
+{
     let mut macros = Vec::new(alloc);
-    for (place, item) in table.items.iter().enumerate() {
-        if item.kind == ItemKind::Macro
-            && let Some(first) = firsts.get(place)
-        {
-            macros.push(Known {
-                name: item.name,
-                definition: Definition::Item(*first),
-            })?;
+    for number in 0..item_count(table) {
+        if let Some(known) = macro_at(table, firsts, number) {
+            macros.push(known)?;
         }
     }
     macros.sort()?;
@@ -251,7 +335,12 @@ impl<'a> Space<'a> {
         outside: &mut OutsidePaths,
         table: &'a Table,
         manifests: &[Name],
-    ) -> Result<Space<'a>, AllocError> {
+    ) -> Result<Space<'a>, AllocError>
+        ensures table { IfOk result (λ space. space.table ≡ table.entry) }
+        ensures of_table { IfOk result IsOfTable }
+        ensures members { IfOk result HasMembers }
+        ensures aliases { IfOk result (λ space. space.aliases.items ≡ []) }
+    {
         let std = outside.child(None, number(&table.names, "std"))?;
         add_seconds(outside, &table.names, std, &SECOND_PATHS[..])?;
         let firsts = first_items(alloc, table)?;

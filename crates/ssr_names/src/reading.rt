@@ -1,11 +1,17 @@
 //! The provider of a run, read of its sources.
-ghost use Rattle.std.specs.Prelude.{◌≡◌, List, None, IfOk, OnOk, All};
+ghost use Rattle.std.specs.Prelude.{◌≡◌, List, [], Some, None, IfOk, IfSome, OnOk, All, codes};
+ghost use Rattle.ssr_names_items.specs.Names.{number_of};
 ghost use Rattle.std.specs.BTreeMap.{insert_entry};
 ghost use Rattle.ssr_base_trees.specs.contracts.ids.NodeIdOrd.TheImpl as id_order;
 ghost use Rattle.ssr_base_trees.specs.Built.{IsBuilt};
 ghost use Rattle.ssr_base_trees.specs.Workspace.{PlacedTree, trees as placed};
 ghost use Rattle.ssr_names.specs.Locals.{TellsNoLocal};
+ghost use Rattle.ssr_names.specs.Declarations.{Declares, HasMembers, IsOfTable};
+ghost use Rattle.ssr_names.specs.Told.{IsReady, TellsWhatStands};
 ghost use Rattle.ssr_names.specs.Private.Locals.{CollectsAll, HasNoLocal, IsRight};
+ghost use Rattle.ssr_names.specs.Private.Rows.{AreKnown, IsAdded, TellsRow};
+ghost use Rattle.ssr_names.specs.declared.scopes.TreeScopes.{TreeScopes};
+ghost use Rattle.ssr_names_items.specs.declared.table.Name.{Name};
 
 use crate::definitions::{Definition, Meaning};
 use crate::imports::settle;
@@ -19,7 +25,7 @@ use crate::resolving::{BoundIn, ImplType, Resolver, Row, by_nodes};
 use crate::rule_paths::{RulePath, add_names};
 use crate::scopes::Scopes;
 use crate::space::Space;
-use crate::types::{Source, add_inherent, follow_aliases, is_alias};
+use crate::types::{Source, followed_aliases, is_alias, with_inherent};
 use crate::wanted::Wanted;
 use crate::words::{Word, Words};
 use ssr_base_trees::{DefId, NodeId, Res, ScopeId, Trees};
@@ -50,11 +56,10 @@ fn add_all_names(
     table: &mut Table,
     crates: &[String],
     rules: &[RulePath],
-) -> Result<Vec<Name>, AllocError> {
-    let mut manifests = Vec::with_capacity(alloc, crates.len())?;
-    for name in crates {
-        manifests.push(table.names.add(name.as_str())?)?;
-    }
+) -> Result<Vec<Name>, AllocError>
+    ensures { OnOk result (Declares table.old table.new) }
+{
+    let mut manifests = added_names(alloc, table, crates)?;
     for path in rules {
         add_names(&mut table.names, path)?;
     }
@@ -65,8 +70,22 @@ fn add_all_names(
     Ok(manifests)
 }
 
+/// The numbers of names, which are added.
+fn added_names(alloc: Global, table: &mut Table, texts: &[String]) -> Result<Vec<Name>, AllocError>
+    ensures { OnOk result (Declares table.old table.new) }
+{
+    let mut names = Vec::with_capacity(alloc, texts.len())?;
+    for text in texts {
+        names.push(table.names.add(text.as_str())?)?;
+    }
+    Ok(names)
+}
+
 /// The names that stand for themselves.
-fn special_names(table: &mut Table) -> Result<Special, AllocError> {
+fn special_names(table: &mut Table) -> Result<Special, AllocError>
+    ensures declared { OnOk result (Declares table.old table.new) }
+    ensures stranger { IfOk result (λ special. number_of table.new.names (codes "?") ≡ Some special.stranger) }
+{
     Ok(Special {
         stranger: table.names.add("?")?,
         self_type: table.names.add("Self")?,
@@ -79,16 +98,24 @@ fn settle_all(
     source: &Source<'_>,
     space: &mut Space<'_>,
     outside: &mut OutsidePaths,
-) -> Result<Vec<ImplType>, AllocError> {
+) -> Result<Vec<ImplType>, AllocError>
+    requires of_table { IsOfTable space.old }
+    requires members { HasMembers space.old }
+    requires aliases { space.old.aliases.items ≡ [] }
+    ensures table { OnOk result (space.new.table ≡ space.old.table) }
+    ensures ready { OnOk result (IsReady space.new) }
+{
     let unsure = source.unsure_variants(space)?;
     space.unsure_variants = unsure;
     settle(source.alloc, space, outside)?;
     let aliases = source.aliases(space, outside)?;
     space.aliases = aliases;
-    follow_aliases(space);
+    let followed = followed_aliases(source.alloc, space)?;
+    space.aliases = followed;
     let types = source.impl_types(space, outside)?;
     space.impl_types = types;
-    add_inherent(space)?;
+    let members = with_inherent(source.alloc, space)?;
+    space.members = members;
     by_nodes(source.alloc, &space.table.impls, &space.impl_types)
 }
 
@@ -125,7 +152,8 @@ fn add_row(
     row: Row,
     rows: &mut PathRows,
 ) -> Result<(), AllocError>
-    ensures { (trees : List PlacedTree) → IsRight trees row → HasNoLocal trees rows.old.known.entries → OnOk result (HasNoLocal trees rows.new.known.entries) }
+    ensures local { (trees : List PlacedTree) → IsRight trees row → HasNoLocal trees rows.old.known.entries → OnOk result (HasNoLocal trees rows.new.known.entries) }
+    ensures told { (stranger : Name) (scopes : List TreeScopes) (trees : List PlacedTree) → TellsRow space.now stranger scopes trees row → AreKnown space.now stranger scopes trees wanted.now.definitions.items rows.old.known → OnOk result (AreKnown space.now stranger scopes trees wanted.now.definitions.items rows.new.known) }
 {
     let Some(definition) = definition_of(row) else {
         return add_undecided(alloc, space, wanted, row, rows);
@@ -138,7 +166,8 @@ fn add_row(
 
 /// The definition that a path stands for, if that is known.
 fn definition_of(row: Row) -> Option<Definition>
-    ensures { row.meaning ≡ Meaning.Unknown → result ≡ None }
+    ensures unknown { row.meaning ≡ Meaning.Unknown → result ≡ None }
+    ensures known { IfSome result (λ d. row.meaning ≡ Meaning.One d) }
 {
     match row.meaning {
         Meaning::One(definition) => Some(definition),
@@ -148,7 +177,8 @@ fn definition_of(row: Row) -> Option<Definition>
 
 /// Adds a path that stands for what a rule asks for.
 fn add_known(node: NodeId, number: DefId, rows: &mut PathRows) -> Result<(), AllocError>
-    ensures { OnOk result (rows.new.known.entries ≡ insert_entry ((id_order.ghosts).cmp) rows.old.known.entries node (Res.Def number)) }
+    ensures entries { OnOk result (rows.new.known.entries ≡ insert_entry ((id_order.ghosts).cmp) rows.old.known.entries node (Res.Def number)) }
+    ensures known { OnOk result (IsAdded rows.old.known rows.new.known node (Res.Def number)) }
 {
     rows.known.insert(node, Res::Def(number))?;
     rows.believed.insert(node, Res::Def(number))?;
@@ -199,7 +229,8 @@ fn path_rows(
     wanted: &Wanted,
     found: &[Row],
 ) -> Result<PathRows, AllocError>
-    ensures { (trees : List PlacedTree) → All (IsRight trees) found.now → IfOk result (λ rows. HasNoLocal trees rows.known.entries) }
+    ensures local { (trees : List PlacedTree) → All (IsRight trees) found.now → IfOk result (λ rows. HasNoLocal trees rows.known.entries) }
+    ensures told { (stranger : Name) (scopes : List TreeScopes) (trees : List PlacedTree) → All (TellsRow space.now stranger scopes trees) found.now → IfOk result (λ rows. AreKnown space.now stranger scopes trees wanted.now.definitions.items rows.known) }
 {
     let mut rows = PathRows {
         known: BTreeMap::new(alloc),
@@ -278,7 +309,8 @@ fn found_rows(
 ) -> Result<(Vec<Row>, Vec<BoundIn>), AllocError>
     requires built { IsBuilt resolver.source.now.trees.now }
     requires collected { CollectsAll (placed resolver.source.now.trees.now) words.now }
-    ensures { IfOk result (λ found. All (IsRight (placed resolver.entry.source.now.trees.now)) found.0.items) }
+    ensures local { IfOk result (λ found. All (IsRight (placed resolver.entry.source.now.trees.now)) found.0.items) }
+    ensures told { IfOk result (λ found. All (TellsRow resolver.entry.space.now resolver.entry.source.now.stranger resolver.entry.scopes.now.trees.items (placed resolver.entry.source.now.trees.now)) found.0.items) }
 {
     let (bound, bound_in) = resolver.bound(outside, words.binders.as_slice())?;
     let locals = Locals {
@@ -315,7 +347,8 @@ fn all_rows(
 ) -> Result<(PathRows, Vec<BoundIn>), AllocError>
     requires built { IsBuilt resolver.source.now.trees.now }
     requires collected { CollectsAll (placed resolver.source.now.trees.now) words.now }
-    ensures { IfOk result (λ all. HasNoLocal (placed resolver.entry.source.now.trees.now) all.0.known.entries) }
+    ensures local { IfOk result (λ all. HasNoLocal (placed resolver.entry.source.now.trees.now) all.0.known.entries) }
+    ensures told { IfOk result (λ all. AreKnown resolver.entry.space.now resolver.entry.source.now.stranger resolver.entry.scopes.now.trees.items (placed resolver.entry.source.now.trees.now) wanted.now.definitions.items all.0.known) }
 {
     let (found, bound_in) = found_rows(resolver, outside, words)?;
     let (alloc, space) = (resolver.source.alloc, resolver.space);
@@ -331,7 +364,9 @@ fn names_of(
     rows: PathRows,
     printed: BTreeMap<PrintedKey, String>,
 ) -> Names
-    ensures { (trees : List PlacedTree) → HasNoLocal trees rows.known.entries → TellsNoLocal trees result }
+    ensures local { (trees : List PlacedTree) → HasNoLocal trees rows.known.entries → TellsNoLocal trees result }
+    ensures known { result.known ≡ rows.known }
+    ensures scopes { result.scopes ≡ scopes }
 {
     let Wanted {
         lookups,
@@ -366,7 +401,8 @@ pub fn read_names(
     rules: &[RulePath],
     position: NodeId,
 ) -> Result<Names, AllocError>
-    ensures { IfOk result (λ names. TellsNoLocal (placed trees.now) names) }
+    ensures local { IfOk result (λ names. TellsNoLocal (placed trees.now) names) }
+    ensures stands { IfOk result (λ names. TellsWhatStands table (placed trees.now) names) }
 {
     let manifests = add_all_names(alloc, &mut table, crates, rules)?;
     let special = special_names(&mut table)?;

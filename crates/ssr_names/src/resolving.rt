@@ -1,8 +1,13 @@
 //! What the paths of the code stand for whose last names are asked for.
-ghost use Rattle.std.specs.Prelude.{◌≡◌, true, false, IfOk, OnOk, All};
+ghost use Rattle.std.specs.Prelude.{◌≡◌, true, false, Some, IfOk, IfSome, OnOk, All};
 ghost use Rattle.ssr_syntax_tree.specs.Places.{HasNode};
 ghost use Rattle.ssr_base_trees.specs.Built.{IsBuilt};
 ghost use Rattle.ssr_base_trees.specs.Workspace.{trees as placed};
+ghost use Rattle.ssr_names.specs.Private.Meanings.{Means};
+ghost use Rattle.ssr_base_trees.specs.declared.ids.ScopeId.{ScopeId};
+ghost use Rattle.ssr_names.specs.Told.{BeginsWithSelf, IsTold, IsToldIn, begins_with_self, namespace_of};
+ghost use Rattle.ssr_names.specs.Private.Rows.{TellsRow};
+ghost use Rattle.ssr_names.specs.Private.Scopes.{scope_in};
 ghost use Rattle.ssr_names.specs.Private.Locals.{BindAll, BindAround, CollectsAll, IsRight, StaysBound};
 
 use crate::code_paths::{CodePath, code_path};
@@ -107,6 +112,9 @@ fn name_behind(tree: &Tree, path: NodeNo) -> Option<&str>
 /// A path of which nothing is known yet.
 fn unread_row(tree: &Tree, word: Word) -> Row
     requires { HasNode tree.now word.node.node.0 }
+    ensures node { result.node ≡ word.node }
+    ensures namespace { result.namespace ≡ namespace_of tree.now word.node.node.0 }
+    ensures unknown { result.meaning ≡ Meaning.Unknown }
 {
     Row {
         node: word.node,
@@ -120,7 +128,9 @@ fn unread_row(tree: &Tree, word: Word) -> Row
 
 impl<'r> Resolver<'r> {
     /// The module that a node stands in.
-    fn module_of(&self, node: NodeId) -> Option<ModuleNo> {
+    fn module_of(&self, node: NodeId) -> Option<ModuleNo>
+        ensures { IfSome result (λ found. (scope : ScopeId) × (scope_in self.now.scopes.now.trees.items node ≡ Some scope) × (found.0 ≡ scope.0)) }
+    {
         Some(ModuleNo(self.scopes.scope(node)?.0))
     }
 
@@ -283,27 +293,47 @@ impl<'r> Resolver<'r> {
         Ok(answer)
     }
 
+    /// Whether the first one of some names is `Self`.
+    fn begins_with_self(&self, names: &[Name]) -> bool
+        ensures { result ≡ begins_with_self self.now.space.now names.now }
+    {
+        match names.get(0).copied() {
+            Some(first) => self.space.text(first) == "Self",
+            None => false,
+        }
+    }
+
+    /// Whether a path begins with `Self`.
+    fn is_behind_self(&self, path: &CodePath) -> bool
+        ensures { result ≡ true → BeginsWithSelf self.now.space.now path.now.start path.now.names.items }
+    {
+        match path.start {
+            Start::Plain => self.begins_with_self(&path.names),
+            _ => false,
+        }
+    }
+
     /// What a path stands for that is spelled in a place.
     fn meaning_of(
         &self,
         outside: &mut OutsidePaths,
         spelled: Spelled<'_>,
-    ) -> Result<PathAnswer, AllocError> {
-        let path = spelled.path;
-        let first = path.names.first().copied();
-        let is_plain = path.start == Start::Plain;
-        if is_plain && spelled.place.is_generic {
+    ) -> Result<PathAnswer, AllocError>
+        ensures { IfOk result (λ answer. Means answer.meaning (IsTold self.now.space.now spelled.entry.«module» spelled.entry.path.now.start spelled.entry.path.now.names.items spelled.entry.namespace)) }
+    {
+        let code = spelled.path;
+        if code.start == Start::Plain && spelled.place.is_generic {
             return Ok(PathAnswer {
                 meaning: Meaning::Unknown,
-                name: first,
+                name: code.names.first().copied(),
             });
         }
-        if is_plain && first == Some(self.self_type) {
+        if self.is_behind_self(code) {
             return self.behind_self(outside, spelled);
         }
         let question = PathQuestion {
-            start: path.start,
-            names: &path.names,
+            start: code.start,
+            names: &code.names,
             namespace: spelled.namespace,
             module: spelled.module,
             import: None,
@@ -319,17 +349,19 @@ impl<'r> Resolver<'r> {
         spelled: Spelled<'_>,
         answer: PathAnswer,
         behind: Option<&str>,
-    ) -> PathAnswer {
+    ) -> PathAnswer
+        ensures { Means answer.meaning (IsTold self.now.space.now spelled.entry.«module» spelled.entry.path.now.start spelled.entry.path.now.names.items spelled.entry.namespace) → Means result.meaning (IsTold self.now.space.now spelled.entry.«module» spelled.entry.path.now.start spelled.entry.path.now.names.items spelled.entry.namespace) }
+    {
         let is_module = match behind {
             Some(name) => is_in_type_module(name),
             None => false,
         };
-        if is_module || spelled.namespace != Namespace::Type {
-            return answer;
-        }
-        PathAnswer {
-            meaning: self.space.as_type(outside, answer.meaning),
-            ..answer
+        match spelled.namespace {
+            Namespace::Type if !is_module => PathAnswer {
+                meaning: self.space.as_type(outside, answer.meaning),
+                ..answer
+            },
+            _ => answer,
         }
     }
 
@@ -342,6 +374,7 @@ impl<'r> Resolver<'r> {
         module: ModuleNo,
     ) -> Result<Option<Row>, AllocError>
         requires { HasNode tree.now word.node.node.0 }
+        ensures { IfOk result (λ row. IfSome row (λ row. (row.node ≡ word.node) × Means row.meaning (IsToldIn self.now.space.now self.now.source.now.stranger tree.now word.node.node.0 «module»))) }
     {
         let source = self.source;
         let names = &self.space.table.names;
@@ -374,33 +407,48 @@ impl<'r> Resolver<'r> {
         }))
     }
 
+    /// What is told of a macro's path.
+    fn macro_told(
+        &self,
+        outside: &mut OutsidePaths,
+        spelled: Spelled<'_>,
+    ) -> Result<PathAnswer, AllocError>
+        ensures { IfOk result (λ answer. Means answer.meaning (IsTold self.now.space.now spelled.entry.«module» spelled.entry.path.now.start spelled.entry.path.now.names.items spelled.entry.namespace)) }
+    {
+        let question = PathQuestion {
+            start: spelled.path.start,
+            names: &spelled.path.names,
+            namespace: spelled.namespace,
+            module: spelled.module,
+            import: None,
+        };
+        let answer = self.space.whole_path(self.source.alloc, outside, question)?;
+        Ok(PathAnswer {
+            meaning: self.space.macro_at(spelled.node, answer.meaning),
+            ..answer
+        })
+    }
+
     /// What is told of a path.
     fn told(
         &self,
         outside: &mut OutsidePaths,
         spelled: Spelled<'_>,
         behind: Option<&str>,
-    ) -> Result<PathAnswer, AllocError> {
+    ) -> Result<PathAnswer, AllocError>
+        ensures { IfOk result (λ answer. Means answer.meaning (IsTold self.now.space.now spelled.entry.«module» spelled.entry.path.now.start spelled.entry.path.now.names.items spelled.entry.namespace)) }
+    {
         if spelled.namespace == Namespace::Macro {
-            let question = PathQuestion {
-                start: spelled.path.start,
-                names: &spelled.path.names,
-                namespace: Namespace::Macro,
-                module: spelled.module,
-                import: None,
-            };
-            let answer = self.space.whole_path(self.source.alloc, outside, question)?;
-            return Ok(PathAnswer {
-                meaning: self.space.macro_at(spelled.node, answer.meaning),
-                ..answer
-            });
+            return self.macro_told(outside, spelled);
         }
         let answer = self.meaning_of(outside, spelled)?;
         Ok(self.with_behind(outside, spelled, answer, behind))
     }
 
     /// What a path stands for; nothing is told of one that is a part of a `use` item, a visibility or an attribute.
-    fn row(&self, outside: &mut OutsidePaths, word: Word) -> Result<Option<Row>, AllocError> {
+    fn row(&self, outside: &mut OutsidePaths, word: Word) -> Result<Option<Row>, AllocError>
+        ensures { IfOk result (λ row. IfSome row (TellsRow self.now.space.now self.now.source.now.stranger self.now.scopes.now.trees.items (placed self.now.source.now.trees.now))) }
+    {
         let Some(tree) = self.source.trees.tree(word.node.tree) else {
             return Ok(None);
         };
@@ -438,6 +486,7 @@ impl<'r> Resolver<'r> {
         first: Row,
     ) -> Result<Row, AllocError>
         requires { HasNode tree.now word.node.node.0 }
+        ensures { IfOk result (λ row. (row.node ≡ first.node) × Means row.meaning (λ d. first.meaning ≡ Meaning.One d)) }
     {
         let unknown = Row {
             meaning: Meaning::Unknown,
@@ -461,7 +510,8 @@ impl<'r> Resolver<'r> {
         requires built { IsBuilt locals.trees.now }
         requires collected { CollectsAll (placed locals.trees.now) locals.words.now }
         requires bound { BindAll (placed locals.trees.now) locals.bound.now locals.words.now.binders.items }
-        ensures { IfOk result (λ rows. All (IsRight (placed locals.entry.trees.now)) rows.items) }
+        ensures local { IfOk result (λ rows. All (IsRight (placed locals.entry.trees.now)) rows.items) }
+        ensures told { IfOk result (λ rows. All (TellsRow self.now.space.now self.now.source.now.stranger self.now.scopes.now.trees.items (placed self.now.source.now.trees.now)) rows.items) }
     {
         let alloc = self.source.alloc;
         let mut rows = Vec::new(alloc);

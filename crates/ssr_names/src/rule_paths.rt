@@ -1,5 +1,8 @@
 //! The paths of rules, which have to stand for something.
 
+ghost use Rattle.std.specs.Prelude.{OnOk};
+ghost use Rattle.ssr_names_items.specs.Names.{KeepsNumbers};
+
 use crate::definitions::{Definition, Meaning};
 use crate::lookup::PathQuestion;
 use crate::outside::OutsidePaths;
@@ -38,7 +41,9 @@ fn start_of(start: Start, segment: &str, is_first: bool) -> Option<Start> {
 }
 
 /// Adds the names of a rule's path, so that they have numbers.
-pub(crate) fn add_names(names: &mut Names, path: &RulePath) -> Result<(), AllocError> {
+pub(crate) fn add_names(names: &mut Names, path: &RulePath) -> Result<(), AllocError>
+    ensures { OnOk result (KeepsNumbers names.old names.new) }
+{
     for segment in &path.key {
         names.add(segment.as_str())?;
     }

@@ -1,5 +1,14 @@
 //! The names of a run, ready to be looked up.
 
+ghost use Rattle.std.specs.Prelude.{ℕ, ◌≡◌, ◌≤◌, ◌-◌, true, false, not, take, drop, length, slice_get, None, All, Contains, IfOk, IfSome};
+ghost use Rattle.ssr_names_items.specs.declared.table.Entry.{Entry};
+ghost use Rattle.ssr_names_items.specs.Names.{text_of};
+ghost use Rattle.std.specs.Option.{option_copied};
+ghost use Rattle.std.specs.List.Sorted.{IsPartitionPoint};
+ghost use Rattle.ssr_names.specs.Private.Meanings.{Means};
+ghost use Rattle.ssr_names.specs.Lookup.{IsAbove, IsAlias, IsAroundBlock, IsKnown, IsOrdered, IsOutermost, IsOutside, IsParent, IsPlain, IsRoot, IsSeen, IsTop, IsWithin, answer_of, first_of, import_at, in_namespace, item_at, module_at, rank};
+ghost use Rattle.ssr_names.specs.Private.Answered.{IsRanked, is_before, is_behind};
+
 use crate::copies::{MOST_COPIES, ModulePlace};
 use crate::definitions::{Definition, Meaning, OutsideNo};
 use crate::outside::OutsidePaths;
@@ -20,7 +29,9 @@ pub(crate) struct Answers {
 
 impl Answers {
     /// One meaning in all namespaces.
-    pub(crate) fn all(meaning: Meaning) -> Answers {
+    pub(crate) fn all(meaning: Meaning) -> Answers
+        ensures { result ≡ record { as_type = meaning; as_value = meaning; as_macro = meaning } }
+    {
         Answers {
             as_type: meaning,
             as_value: meaning,
@@ -28,12 +39,23 @@ impl Answers {
         }
     }
 
-    pub(crate) fn get(self, namespace: Namespace) -> Meaning {
+    pub(crate) fn get(self, namespace: Namespace) -> Meaning
+        ensures { result ≡ in_namespace self namespace }
+    {
         match namespace {
             Namespace::Type => self.as_type,
             Namespace::Value => self.as_value,
             Namespace::Macro => self.as_macro,
         }
+    }
+
+    /// Whether these are the same answers.
+    pub(crate) fn same(self, other: Answers) -> bool
+        ensures { result ≡ true → self ≡ other }
+    {
+        self.as_type.same(other.as_type)
+            && self.as_value.same(other.as_value)
+            && self.as_macro.same(other.as_macro)
     }
 
     /// The first definition that is known.
@@ -123,24 +145,40 @@ fn member_key(member: &Member) -> MemberKey {
     }
 }
 
-/// What an entry is found by.
-#[derive(Clone, Copy, PartialEq, Eq, PartialOrd, Ord)]
-struct EntryKey {
-    module: ModuleNo,
-    name: Name,
-    namespace: Namespace,
+/// By what entries stand in order.
+fn rank(module: ModuleNo, name: Name) -> u64
+    ensures { result ≡ rank «module» name }
+{
+    u64::from(module.0) * 0x1_0000_0000 + u64::from(name.0)
 }
 
-fn key_of(entry: &Entry) -> EntryKey {
-    EntryKey {
-        module: entry.module,
-        name: entry.name,
-        namespace: entry.namespace,
-    }
+/// Whether an entry stands before those of a rank.
+fn is_before(entry: &Entry, other: u64) -> bool
+    ensures { result ≡ is_before entry.now other }
+{
+    rank(entry.module, entry.name) < other
+}
+
+/// Whether an entry stands behind those of a rank.
+fn is_behind(entry: &Entry, other: u64) -> bool
+    ensures { result ≡ is_behind entry.now other }
+{
+    other < rank(entry.module, entry.name)
+}
+
+/// Whether two modules are one.
+pub(crate) fn is_same(one: ModuleNo, other: ModuleNo) -> bool
+    ensures yes { result ≡ true → one ≡ other }
+    ensures no { result ≡ false → ¬ (one ≡ other) }
+{
+    one.0 == other.0
 }
 
 /// What stands in a sorted list from one place on to before another one.
-pub(crate) fn between<T>(list: &[T], first: usize, past: usize) -> &[T] {
+pub(crate) fn between<T>(list: &[T], first: usize, past: usize) -> &[T]
+    ensures part { (n : ℕ) × (m : ℕ) × (result.now ≡ take n (drop m list.now)) }
+    ensures whole { first ≤ past → past ≤ length list.now → result.now ≡ take (past - first) (drop first list.now) }
+{
     if first <= past && past <= list.len() {
         &list[first..past]
     } else {
@@ -149,31 +187,41 @@ pub(crate) fn between<T>(list: &[T], first: usize, past: usize) -> &[T] {
 }
 
 /// What a name is known as, each time.
-pub(crate) fn known_all(list: &[Known], name: Name) -> &[Known] {
+pub(crate) fn known_all(list: &[Known], name: Name) -> &[Known]
+    ensures { All (Contains list.now) result.now }
+{
     let first = list.partition_point(|known| known.name < name);
     let past = list.partition_point(|known| known.name <= name);
     between(list, first, past)
 }
 
 /// What a name is known as.
-fn known_as(list: &[Known], name: Name) -> Option<Definition> {
+pub(crate) fn known_as(list: &[Known], name: Name) -> Option<Definition>
+    ensures { IfSome result (IsKnown list.now name) }
+{
     match known_all(list, name).first() {
-        Some(known) => Some(known.definition),
-        None => None,
+        Some(known) if known.name.0 == name.0 => Some(known.definition),
+        _ => None,
     }
 }
 
 impl<'a> Space<'a> {
-    pub(crate) fn module(&self, module: ModuleNo) -> Option<Module> {
+    pub(crate) fn module(&self, module: ModuleNo) -> Option<Module>
+        ensures { result ≡ module_at self.now «module» }
+    {
         self.table.modules.get(module.0 as usize).copied()
     }
 
-    pub(crate) fn item(&self, item: ItemNo) -> Option<Item> {
+    pub(crate) fn item(&self, item: ItemNo) -> Option<Item>
+        ensures { result ≡ item_at self.now item }
+    {
         self.table.items.get(item.0 as usize).copied()
     }
 
     /// An item, where several stand at its place the first one.
-    pub(crate) fn first_item(&self, item: ItemNo) -> ItemNo {
+    pub(crate) fn first_item(&self, item: ItemNo) -> ItemNo
+        ensures { result ≡ first_of self.now item }
+    {
         match self.first_items.get(item.0 as usize) {
             Some(first) => *first,
             None => item,
@@ -218,34 +266,57 @@ impl<'a> Space<'a> {
         count <= MOST_COPIES && self.copy_count(module) <= count
     }
 
-    pub(crate) fn import(&self, import: ImportNo) -> Option<&Import> {
+    pub(crate) fn import(&self, import: ImportNo) -> Option<&Import>
+        ensures { option_copied result ≡ import_at self.now import }
+    {
         self.table.imports.get(import.0 as usize)
     }
 
-    pub(crate) fn text(&self, name: Name) -> &str {
+    pub(crate) fn text(&self, name: Name) -> &str
+        ensures { result.now ≡ text_of self.now.table.now.names name }
+    {
         self.table.names.text(name)
     }
 
     /// What an import's path stands for.
-    pub(crate) fn answer(&self, import: ImportNo, namespace: Namespace) -> Meaning {
+    pub(crate) fn answer(&self, import: ImportNo, namespace: Namespace) -> Meaning
+        ensures { result ≡ answer_of self.now import namespace }
+    {
         match self.answers.get(import.0 as usize) {
             Some(answers) => answers.get(namespace),
             None => Meaning::Unknown,
         }
     }
 
-    /// The entries of a module with a name in a namespace.
-    pub(crate) fn entries(&self, module: ModuleNo, name: Name, namespace: Namespace) -> &[Entry] {
-        let key = EntryKey {
-            module,
-            name,
-            namespace,
-        };
-        let entries = self.table.entries.as_slice();
-        let first = entries.partition_point(|entry| key_of(entry) < key);
-        let rest = between(entries, first, entries.len());
-        let count = rest.iter().position(|entry| key_of(entry) != key);
-        between(rest, 0, count.unwrap_or(rest.len()))
+    /// The entries of a module with a name, in each namespace.
+    pub(crate) fn entries(&self, module: ModuleNo, name: Name) -> &[Entry]
+        ensures among { All (Contains self.now.table.now.entries.items) result.now }
+        ensures complete { IsOrdered self.now → (entry : Entry) → Contains self.now.table.now.entries.items entry → IsRanked «module» name entry → Contains result.now entry }
+    {
+        let rank = rank(module, name);
+        let first = self.first_ranked(rank);
+        let past = self.past_ranked(rank);
+        between(&self.table.entries, first, past)
+    }
+
+    /// How many entries stand before those of a rank.
+    fn first_ranked(&self, rank: u64) -> usize
+        ensures bound { result ≤ length self.now.table.now.entries.items }
+        ensures point { IsOrdered self.now → IsPartitionPoint (λ entry. is_before entry rank ≡ true) (λ entry. is_before entry rank ≡ false) self.now.table.now.entries.items result }
+    {
+        self.table
+            .entries
+            .partition_point(|entry| is_before(entry, rank))
+    }
+
+    /// How many entries stand before those behind a rank.
+    fn past_ranked(&self, rank: u64) -> usize
+        ensures bound { result ≤ length self.now.table.now.entries.items }
+        ensures point { IsOrdered self.now → IsPartitionPoint (λ entry. not (is_behind entry rank) ≡ true) (λ entry. not (is_behind entry rank) ≡ false) self.now.table.now.entries.items result }
+    {
+        self.table
+            .entries
+            .partition_point(|entry| !is_behind(entry, rank))
     }
 
     /// The imports of a module that bring in all of something.
@@ -257,7 +328,9 @@ impl<'a> Space<'a> {
     }
 
     /// The members of an item with a name.
-    pub(crate) fn members_of(&self, of: ItemNo, name: Name) -> &[Member] {
+    pub(crate) fn members_of(&self, of: ItemNo, name: Name) -> &[Member]
+        ensures { All (Contains self.now.members.items) result.now }
+    {
         let key = MemberKey { of, name };
         let members = self.members.as_slice();
         let first = members.partition_point(|member| member_key(member) < key);
@@ -266,53 +339,90 @@ impl<'a> Space<'a> {
     }
 
     /// What a type alias is an alias of.
-    pub(crate) fn aliased(&self, item: ItemNo) -> Meaning {
+    pub(crate) fn aliased(&self, item: ItemNo) -> Meaning
+        ensures { Means result (IsAlias self.now item) }
+    {
         let place = self.aliases.partition_point(|alias| alias.item < item);
-        match self.aliases.get(place) {
-            Some(alias) if alias.item == item => alias.meaning,
+        match self.alias_at(place) {
+            Some(alias) if alias.item.0 == item.0 => alias.meaning,
             _ => Meaning::Unknown,
         }
     }
 
-    pub(crate) fn crate_named(&self, name: Name) -> Option<Definition> {
+    /// The alias at a place.
+    fn alias_at(&self, place: usize) -> Option<Alias>
+        ensures { result ≡ slice_get self.now.aliases.items place }
+    {
+        self.aliases.get(place).copied()
+    }
+
+    pub(crate) fn crate_named(&self, name: Name) -> Option<Definition>
+        ensures { IfSome result (IsKnown self.now.crates.items name) }
+    {
         known_as(&self.crates, name)
     }
 
-    pub(crate) fn builtin_type(&self, name: Name) -> Option<Definition> {
+    pub(crate) fn builtin_type(&self, name: Name) -> Option<Definition>
+        ensures { IfSome result (IsKnown self.now.builtin_types.items name) }
+    {
         known_as(&self.builtin_types, name)
     }
 
     /// The module around a block, or the module itself.
-    pub(crate) fn plain_module(&self, module: ModuleNo) -> ModuleNo {
+    pub(crate) fn plain_module(&self, module: ModuleNo) -> ModuleNo
+        ensures { IsPlain self.now «module» result }
+    {
         let mut at = module;
-        for _ in 0..self.table.modules.len() {
-            match self.module(at) {
-                Some(row) if row.kind == ModuleKind::Block => at = row.parent.unwrap_or(at),
-                _ => break,
-            }
+        for step in 0..self.table.modules.len() {
+            let Some(up) = self.around_block(at) else {
+                return at;
+            };
+            at = up;
         }
         at
     }
 
+    /// What is around a block.
+    pub(crate) fn around_block(&self, module: ModuleNo) -> Option<ModuleNo>
+        ensures around { IfSome result (IsAroundBlock self.now «module») }
+        ensures outermost { result ≡ None → IsOutermost self.now «module» }
+    {
+        let row = self.module(module)?;
+        match row.kind {
+            ModuleKind::Block => row.parent,
+            _ => None,
+        }
+    }
+
     /// The module above a module that is no block.
-    pub(crate) fn parent_module(&self, module: ModuleNo) -> Option<ModuleNo> {
+    pub(crate) fn parent_module(&self, module: ModuleNo) -> Option<ModuleNo>
+        ensures { IfSome result (IsParent self.now «module») }
+    {
         let row = self.module(self.plain_module(module))?;
         Some(self.plain_module(row.parent?))
     }
 
     /// The root above a module.
-    pub(crate) fn root_of(&self, module: ModuleNo) -> ModuleNo {
+    pub(crate) fn root_of(&self, module: ModuleNo) -> ModuleNo
+        ensures { IsRoot self.now «module» result }
+    {
         let mut at = module;
-        for _ in 0..self.table.modules.len() {
-            match self.module(at) {
-                Some(row) => match row.parent {
-                    Some(parent) => at = parent,
-                    None => break,
-                },
-                None => break,
-            }
+        for step in 0..self.table.modules.len() {
+            let Some(up) = self.above(at) else {
+                return at;
+            };
+            at = up;
         }
         at
+    }
+
+    /// The module or the block around a module.
+    fn above(&self, module: ModuleNo) -> Option<ModuleNo>
+        ensures above { IfSome result (IsAbove self.now «module») }
+        ensures top { result ≡ None → IsTop self.now «module» }
+    {
+        let row = self.module(module)?;
+        row.parent
     }
 
     /// The edition of a module's crate.
@@ -324,25 +434,28 @@ impl<'a> Space<'a> {
     }
 
     /// Whether a module is another one or stands below it.
-    pub(crate) fn is_within(&self, module: ModuleNo, outer: ModuleNo) -> bool {
+    pub(crate) fn is_within(&self, module: ModuleNo, outer: ModuleNo) -> bool
+        ensures within { result ≡ true → IsWithin self.now «module» outer }
+        ensures apart { IsOrdered self.now → result ≡ false → IsWithin self.now «module» outer → ⊥ }
+    {
         let mut at = module;
-        for _ in 0..self.table.modules.len() {
-            if at == outer {
+        for step in 0..self.table.modules.len() {
+            if is_same(at, outer) {
                 return true;
             }
-            match self.module(at) {
-                Some(row) => match row.parent {
-                    Some(parent) => at = parent,
-                    None => return false,
-                },
-                None => return false,
-            }
+            let Some(up) = self.above(at) else {
+                return false;
+            };
+            at = up;
         }
-        false
+        is_same(at, outer)
     }
 
     /// Whether something with this visibility is seen in a module.
-    pub(crate) fn is_seen(&self, visibility: Visibility, viewer: ModuleNo) -> bool {
+    pub(crate) fn is_seen(&self, visibility: Visibility, viewer: ModuleNo) -> bool
+        ensures seen { result ≡ true → IsSeen self.now visibility viewer }
+        ensures unseen { IsOrdered self.now → result ≡ false → IsSeen self.now visibility viewer → ⊥ }
+    {
         match visibility {
             Visibility::Public => true,
             Visibility::In(outer) => self.is_within(viewer, outer),
@@ -356,7 +469,9 @@ impl<'a> Space<'a> {
         module: ModuleNo,
         name: Name,
         namespace: Namespace,
-    ) -> Result<Meaning, AllocError> {
+    ) -> Result<Meaning, AllocError>
+        ensures { IfOk result (λ found. Means found IsOutside) }
+    {
         let Some(known) = prelude_name(self.text(name)) else {
             return Ok(Meaning::Nothing);
         };
@@ -388,7 +503,9 @@ impl<'a> Space<'a> {
         outside: &mut OutsidePaths,
         known: PreludeName,
         name: Name,
-    ) -> Result<Meaning, AllocError> {
+    ) -> Result<Meaning, AllocError>
+        ensures { IfOk result (λ found. Means found IsOutside) }
+    {
         let Some(module) = self.table.names.number(known.module) else {
             return Ok(Meaning::Unknown);
         };

@@ -1,7 +1,10 @@
 //! What types of `impl`s and type aliases stand for.
+ghost use Rattle.std.specs.Prelude.{IfOk, IfSome, All};
 ghost use Rattle.ssr_syntax_tree.specs.Places.{HasNode};
+ghost use Rattle.ssr_names.specs.Declarations.{HasAliases, HasMembers, IsMember, IsOfTable, IsPart, IsTypeAlias};
 
 use crate::code_paths::code_path;
+use crate::copies::item_count;
 use crate::definitions::{Definition, Meaning};
 use crate::lookup::PathQuestion;
 use crate::outside::OutsidePaths;
@@ -146,20 +149,37 @@ impl<'s> Source<'s> {
         &self,
         space: &Space<'_>,
         outside: &mut OutsidePaths,
-    ) -> Result<Vec<Alias>, AllocError> {
+    ) -> Result<Vec<Alias>, AllocError>
+        ensures { IfOk result (λ aliases. All (IsTypeAlias space.now.table.now) aliases.items) }
+    {
         let mut aliases = Vec::new(self.alloc);
-        for (place, item) in space.table.items.iter().enumerate() {
-            if item.kind == ItemKind::TypeAlias
-                && item.owner == Owner::Module
-                && place <= u32::MAX as usize
-            {
-                aliases.push(Alias {
-                    item: ItemNo(place as u32),
-                    meaning: self.alias_at(space, outside, item)?,
-                })?;
+        for number in 0..item_count(space.table) {
+            if let Some(alias) = self.alias_of(space, outside, ItemNo(number))? {
+                aliases.push(alias)?;
             }
         }
         Ok(aliases)
+    }
+
+    /// An item as an alias, if it is a `type` item of a module.
+    fn alias_of(
+        &self,
+        space: &Space<'_>,
+        outside: &mut OutsidePaths,
+        number: ItemNo,
+    ) -> Result<Option<Alias>, AllocError>
+        ensures { IfOk result (λ alias. IfSome alias (IsTypeAlias space.now.table.now)) }
+    {
+        let Some(item) = space.item(number) else {
+            return Ok(None);
+        };
+        if item.kind != ItemKind::TypeAlias || item.owner != Owner::Module {
+            return Ok(None);
+        }
+        Ok(Some(Alias {
+            item: number,
+            meaning: self.alias_at(space, outside, &item)?,
+        }))
     }
 
     /// What a type alias is an alias of.
@@ -220,47 +240,73 @@ pub(crate) fn followed(space: &Space<'_>, meaning: Meaning) -> Meaning {
     Meaning::Unknown
 }
 
-/// Lets each alias be what it is behind all aliases.
-pub(crate) fn follow_aliases(space: &mut Space<'_>) {
-    for place in 0..space.aliases.len() {
-        let Some(alias) = space.aliases.get(place).copied() else {
-            break;
-        };
-        let meaning = followed(space, alias.meaning);
-        if let Some(held) = space.aliases.get_mut(place) {
-            held.meaning = meaning;
-        }
+/// The aliases, each as what it is behind all aliases.
+pub(crate) fn followed_aliases(alloc: Global, space: &Space<'_>) -> Result<Vec<Alias>, AllocError>
+    requires { HasAliases space.now }
+    ensures { IfOk result (λ aliases. All (IsTypeAlias space.now.table.now) aliases.items) }
+{
+    let mut aliases = Vec::with_capacity(alloc, space.aliases.len())?;
+    for alias in &space.aliases {
+        aliases.push(followed_alias(space, *alias))?;
+    }
+    Ok(aliases)
+}
+
+/// An alias as what it is behind all aliases.
+fn followed_alias(space: &Space<'_>, alias: Alias) -> Alias
+    ensures { IsTypeAlias space.now.table.now alias → IsTypeAlias space.now.table.now result }
+{
+    Alias {
+        item: alias.item,
+        meaning: followed(space, alias.meaning),
     }
 }
 
-/// An item of an inherent `impl` as a member of its type.
-fn inherent_member(space: &Space<'_>, item: &Item, place: usize) -> Option<Member> {
-    let Owner::Impl(ImplNo(number)) = item.owner else {
-        return None;
-    };
-    let block = space.table.impls.get(number as usize)?;
-    if block.of_trait || place > u32::MAX as usize {
+/// The type that an `impl` is for, if that is an item and the `impl` isn't of a trait.
+fn inherent_type(space: &Space<'_>, block: ImplNo) -> Option<ItemNo>
+    ensures { IfSome result (IsPart space.now.table.now (Owner.Impl block)) }
+{
+    let row = space.table.impls.get(block.0 as usize).copied()?;
+    if row.of_trait {
         return None;
     }
-    match space.impl_types.get(number as usize) {
-        Some(Meaning::One(Definition::Item(of))) => Some(Member {
-            of: *of,
-            name: item.name,
-            item: space.first_item(ItemNo(place as u32)),
-        }),
+    match space.impl_types.get(block.0 as usize) {
+        Some(Meaning::One(Definition::Item(of))) => Some(*of),
         _ => None,
     }
 }
 
-/// Adds the items of inherent `impl`s to the members of their types.
-pub(crate) fn add_inherent(space: &mut Space<'_>) -> Result<(), AllocError> {
-    let table = space.table;
-    for (place, item) in table.items.iter().enumerate() {
-        if let Some(member) = inherent_member(space, item, place) {
-            space.members.push(member)?;
-        }
+/// An item of an inherent `impl` as a member of its type.
+fn inherent_member(space: &Space<'_>, number: ItemNo) -> Option<Member>
+    requires { IsOfTable space.now }
+    ensures { IfSome result (IsMember space.now.table.now) }
+{
+    let item = space.item(number)?;
+    let Owner::Impl(block) = item.owner else {
+        return None;
+    };
+    let of = inherent_type(space, block)?;
+    Some(Member {
+        of,
+        name: item.name,
+        item: space.first_item(number),
+    })
+}
+
+/// The members, and with them the items of inherent `impl`s as those of their types.
+pub(crate) fn with_inherent(alloc: Global, space: &Space<'_>) -> Result<Vec<Member>, AllocError>
+    requires of_table { IsOfTable space.now }
+    requires members { HasMembers space.now }
+    ensures { IfOk result (λ members. All (IsMember space.now.table.now) members.items) }
+{
+    let mut members = Vec::from_slice(alloc, &space.members)?;
+    for number in 0..item_count(space.table) {
+        let Some(member) = inherent_member(space, ItemNo(number)) else {
+            continue;
+        };
+        members.push(member)?;
     }
-    space.members.sort()?;
-    space.members.dedup();
-    Ok(())
+    members.sort()?;
+    members.dedup();
+    Ok(members)
 }

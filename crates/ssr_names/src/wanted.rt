@@ -1,5 +1,7 @@
 //! What the paths of rules stand for, and under which names the code may have it.
 
+ghost use Rattle.std.specs.Prelude.{◌≡◌, Some, IfSome, slice_get};
+
 use crate::definitions::{Definition, Meaning};
 use crate::outside::OutsidePaths;
 use crate::printed::{Template, Way, Written};
@@ -34,6 +36,8 @@ pub(crate) struct Wanted {
     alloc: Global,
     /// The numbers of the definitions.
     numbers: BTreeMap<Definition, DefId>,
+    /// The definitions by their numbers.
+    pub(crate) definitions: Vec<Definition>,
     pub(crate) infos: Vec<DefInfo>,
     pub(crate) lookups: Vec<Lookup>,
     /// The same, by which each is there once.
@@ -62,6 +66,7 @@ impl Wanted {
         Wanted {
             alloc,
             numbers: BTreeMap::new(alloc),
+            definitions: Vec::new(alloc),
             infos: Vec::new(alloc),
             lookups: Vec::new(alloc),
             asked: BTreeSet::new(alloc),
@@ -84,8 +89,21 @@ impl Wanted {
     }
 
     /// The number of a definition that some rule asks for.
-    pub(crate) fn number(&self, definition: Definition) -> Option<DefId> {
-        self.numbers.get(&definition).copied()
+    pub(crate) fn number(&self, definition: Definition) -> Option<DefId>
+        ensures { IfSome result (λ number. slice_get self.now.definitions.items number.0 ≡ Some definition) }
+    {
+        let number = self.numbers.get(&definition).copied()?;
+        match self.definition_at(number) {
+            Some(held) if held.is(definition) => Some(number),
+            _ => None,
+        }
+    }
+
+    /// The definition of a number.
+    fn definition_at(&self, number: DefId) -> Option<Definition>
+        ensures { result ≡ slice_get self.now.definitions.items number.0 }
+    {
+        self.definitions.get(number.0 as usize).copied()
     }
 
     /// What a path with this last name is taken to stand for where that isn't known.
@@ -114,11 +132,12 @@ impl Wanted {
         if let Some(number) = self.number(definition) {
             return Ok(number);
         }
-        if self.infos.len() >= u32::MAX as usize {
+        if self.definitions.len() >= u32::MAX as usize {
             return Err(AllocError);
         }
-        let number = DefId(self.infos.len() as u32);
+        let number = DefId(self.definitions.len() as u32);
         self.infos.push(space.info(outside, definition, namespace))?;
+        self.definitions.push(definition)?;
         self.numbers.insert(definition, number)?;
         Ok(number)
     }

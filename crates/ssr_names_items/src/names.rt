@@ -1,7 +1,7 @@
 //! The names of items and paths, numbered.
 
-ghost use Rattle.std.specs.Prelude.{◌≡◌};
-ghost use Rattle.ssr_names_items.specs.Names.{bare};
+ghost use Rattle.std.specs.Prelude.{◌≡◌, Some, IfOk, OnOk};
+ghost use Rattle.ssr_names_items.specs.Names.{KeepsNumbers, bare, number_of, text_of};
 
 use crate::table::Name;
 use std::alloc::{AllocError, Global};
@@ -36,7 +36,9 @@ impl Names {
     }
 
     /// The number of a name, if it is one of these.
-    pub fn number(&self, text: &str) -> Option<Name> {
+    pub fn number(&self, text: &str) -> Option<Name>
+        ensures { result ≡ number_of self.now text.now }
+    {
         match self.numbers.get(bare(text)) {
             Some(name) => Some(*name),
             None => None,
@@ -44,7 +46,9 @@ impl Names {
     }
 
     /// The text of a name; an empty one where the number is none of these.
-    pub fn text(&self, name: Name) -> &str {
+    pub fn text(&self, name: Name) -> &str
+        ensures { result.now ≡ text_of self.now name }
+    {
         match self.texts.get(name.0 as usize) {
             Some(text) => text.as_str(),
             None => "",
@@ -52,7 +56,10 @@ impl Names {
     }
 
     /// The number of a name, which is added if it is none of these.
-    pub fn add(&mut self, text: &str) -> Result<Name, AllocError> {
+    pub fn add(&mut self, text: &str) -> Result<Name, AllocError>
+        ensures kept { OnOk result (KeepsNumbers self.old self.new) }
+        ensures numbered { IfOk result (λ name. number_of self.new text.now ≡ Some name) }
+    {
         if let Some(name) = self.number(text) {
             return Ok(name);
         }
@@ -60,8 +67,8 @@ impl Names {
             return Err(AllocError);
         }
         let name = Name(self.texts.len() as u32);
-        self.numbers
-            .insert(String::from_str(self.alloc, bare(text))?, name)?;
+        let key = String::from_str(self.alloc, bare(text))?;
+        self.numbers.insert(key, name)?;
         self.texts.push(String::from_str(self.alloc, bare(text))?)?;
         Ok(name)
     }

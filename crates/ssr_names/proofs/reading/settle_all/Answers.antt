@@ -1,0 +1,23 @@
+use Rattle.std.proofs.Common.{◌≡◌, [], refl, sym, ap, subst}
+use Rattle.ssr_names.specs.declared.space.Space.{Space}
+use Rattle.ssr_names.specs.Declarations.{HasMembers, IsOfTable}
+use Rattle.ssr_names.proofs.Binding.{on_ok}
+use Rattle.ssr_names.proofs.reading.settle_all.Goals as goal
+
+pub returns-clause-table : goal.returns-clause-table
+returns-clause-table c = on_ok c.by_nodes.result _ (ap (λ (s : Space). s.table) c.in_ok-settle.ensures.answered)
+
+pub returns-clause-ready : goal.returns-clause-ready
+returns-clause-ready c =
+    let answered = sym c.in_ok-settle.ensures.answered in
+    on_ok c.by_nodes.result _ (record {
+      of_table = subst IsOfTable answered c.requires.of_table;
+      members = c.in_ok-members.ensures;
+      aliases = c.in_ok-followed.ensures;
+      first = c.settle.new.space;
+      first_of_table = subst IsOfTable answered c.requires.of_table;
+      first_members = subst HasMembers answered c.requires.members;
+      first_aliases = subst (λ (s : Space). s.aliases.items ≡ []) answered c.requires.aliases;
+      later = (refl, refl, refl, refl, refl, refl);
+      settled = c.in_ok-settle.ensures.settled;
+    })
