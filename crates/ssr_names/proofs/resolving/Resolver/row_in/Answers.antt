@@ -10,8 +10,8 @@ returns c =
     let unread = c.unread_row-unread.ensures in
     let path = c.in-Some.path in
     let spelled = if_some
-        (λ (read : CodePath). IsSpelledAs resolver.space.now.table.now.names resolver.source.now.stranger c.args.tree.now number read.start read.names.items)
-        c.in_ok-path.field-0 path c.in-Some.is c.in_ok-path.ensures in (
+    (λ (read : CodePath). IsSpelledAs resolver.space.now.table.now.names resolver.source.now.stranger c.args.tree.now number read.start read.names.items)
+    c.in_ok-path.field-0 path c.in-Some.is c.in_ok-path.ensures in (
       unread.node,
       λ d is.
           told_in resolver.space.now resolver.source.now.stranger c.args.tree.now number c.args.«module» path.start path.names.items c.unread_row-unread.result.namespace d
