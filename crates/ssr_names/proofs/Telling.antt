@@ -1,5 +1,5 @@
 -- What rows tell of paths.
-use Rattle.std.specs.Prelude.{IfOk, Result, Ok, Err}
+use Rattle.std.specs.Prelude.{IfOk, IfSome, Result, Ok, Err}
 use Rattle.std.proofs.Common.{ℕ, ◌≡◌, List, codes, Option, Some, None, slice_get, refl, sym, ap, ◌∙◌, subst, inl, inr, ◌⊎◌}
 use Rattle.std.specs.BTreeMap.{BTreeMap, get}
 use Rattle.ssr_base_trees.specs.declared.ids.NodeId.{NodeId}
@@ -13,7 +13,8 @@ use Rattle.std.proofs.lemmas.Option.{none-some, same_Some}
 use Rattle.std.specs.Option.{option_map}
 use Rattle.ssr_names_items.specs.declared.table.ModuleNo.{ModuleNo}
 use Rattle.ssr_names_items.specs.declared.table.Table.{Table}
-use Rattle.ssr_names_items.specs.Names.{number_of}
+use Rattle.ssr_names_items.specs.Names.{KeepsNumbers, number_of}
+use Rattle.ssr_names_items.specs.declared.names.Names.{Names as Numbers}
 use Rattle.ssr_names.specs.declared.provider.Names.{Names}
 use Rattle.ssr_names_items.specs.declared.table.Name.{Name}
 use Rattle.ssr_names.specs.declared.definitions.Definition.{Definition}
@@ -90,6 +91,22 @@ declares_on a b c first then = record {
   names = λ text name had. then.names text name (first.names text name had);
 }
 
+-- a table declares what it does
+pub declares_itself : (table : Table) → Declares table table
+declares_itself table = record { crates = refl; modules = refl; entries = refl; items = refl; imports = refl; impls = refl; names = λ text name had. had }
+
+-- what declares the same does so with further names
+pub still_declares : (old mid : Table) (names : Numbers) → Declares old mid → KeepsNumbers mid.names names → Declares old (record mid { names = names })
+still_declares old mid names had keeps = record {
+  crates = had.crates;
+  modules = had.modules;
+  entries = had.entries;
+  items = had.items;
+  imports = had.imports;
+  impls = had.impls;
+  names = λ text name was. keeps text name (had.names text name was);
+}
+
 -- what rows tell, the provider by these rows tells
 pub tells_rows : (table mid final : Table) (ts : List PlacedTree) (names : Names) (space : Space) (stranger : Name) (definitions : List Definition) (scopes : List TreeScopes) (known : BTreeMap NodeId Res)
     → Declares table mid → Declares mid final → space.table.now ≡ final → number_of final.names (codes "?") ≡ Some stranger → IsReady space
@@ -112,6 +129,23 @@ pub tells_in : (space : Space) (stranger : Name) (scopes : List TreeScopes) (w :
 tells_in space stranger scopes w node tree m row is scope same told d means =
     subst (λ (x : NodeId). StandsAt space stranger (scope_in scopes) (trees w) x d) (sym same)
     (stands_in space stranger scopes w node tree m scope.0 d is scope.1 scope.2 (told d means))
+
+-- what holds of a value if there is one, holds of the one that there is
+pub if_some : {T : Type 0} (P : T → Type 0) (o : Option T) (x : T) → o ≡ Some x → IfSome o P → P x
+if_some P None x is had = absurd (none-some x is)
+if_some P (Some y) x is had = subst P (same_Some y x is) had
+
+-- a row that is found of a path of a tree
+abbrev pub IsRowIn : Space → Name → NodeId → Syntax → ModuleNo → Row → Type 0
+IsRowIn space stranger node tree m row = (row.node ≡ node) × ((d : Definition) → row.meaning ≡ meanings.One d → IsToldIn space stranger tree node.node.0 m d)
+
+-- such a row tells what the path stands for in the module of its scope
+pub tells_found : (space : Space) (stranger : Name) (scopes : List TreeScopes) (w : Workspace) (node : NodeId) (tree : Syntax) (m : ModuleNo) (found : Option Row) (row : Row)
+    → Some tree ≡ tree_of w node.tree → (scope : ScopeId) × (scope_in scopes node ≡ Some scope) × (m.0 ≡ scope.0) → found ≡ Some row
+    → IfSome found (IsRowIn space stranger node tree m) → TellsRow space stranger scopes (trees w) row
+tells_found space stranger scopes w node tree m found row is scope one all =
+    let held = if_some (IsRowIn space stranger node tree m) found row one all in
+    tells_in space stranger scopes w node tree m row is scope held.0 held.1
 
 -- what is found of the names of a path as it is spelled
 pub told_in : (space : Space) (stranger : Name) (tree : Syntax) (path : ℕ) (m : ModuleNo) (start : Start) (names : List Name) (n : Namespace) (d : Definition)

@@ -154,9 +154,10 @@ impl<'s> Source<'s> {
     {
         let mut aliases = Vec::new(self.alloc);
         for number in 0..item_count(space.table) {
-            if let Some(alias) = self.alias_of(space, outside, ItemNo(number))? {
-                aliases.push(alias)?;
-            }
+            let Some(alias) = self.alias_of(space, outside, ItemNo(number))? else {
+                continue;
+            };
+            aliases.push(alias)?;
         }
         Ok(aliases)
     }
