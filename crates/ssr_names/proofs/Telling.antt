@@ -1,7 +1,7 @@
 -- What rows tell of paths.
 use Rattle.std.specs.Prelude.{IfOk, IfSome, Result, Ok, Err}
-use Rattle.std.proofs.Common.{ℕ, ◌≡◌, List, codes, Option, Some, None, slice_get, refl, sym, ap, ◌∙◌, subst, inl, inr, ◌⊎◌}
-use Rattle.std.specs.BTreeMap.{BTreeMap, get}
+use Rattle.std.proofs.Common.{ℕ, ◌≡◌, List, codes, Option, Some, None, slice_get, refl, sym, ◌∙◌, subst, inl, inr}
+use Rattle.std.specs.BTreeMap.{BTreeMap}
 use Rattle.ssr_base_trees.specs.declared.ids.NodeId.{NodeId}
 use Rattle.ssr_base_trees.specs.declared.ids.DefId.{DefId}
 use Rattle.ssr_base_trees.specs.declared.semantics.Res.{Res}
