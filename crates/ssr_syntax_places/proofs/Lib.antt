@@ -1,0 +1,4 @@
+pub mod Shared
+mod InReach
+mod Following
+mod Atoms
