@@ -2,3 +2,5 @@ pub mod Shared
 mod InReach
 mod Following
 mod Atoms
+mod Climbing
+mod Operators

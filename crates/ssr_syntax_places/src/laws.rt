@@ -1,12 +1,15 @@
 //! What holds of trees that fit, whatever the code: each function here does nothing, and what it ensures is a law.
-ghost use Rattle.std.specs.Prelude.{◌≡◌, Bool, true, false, ℕ, List, [], ◌∷◌, ◌++◌, IsTrue};
+ghost use Rattle.std.specs.Prelude.{◌+◌, ◌<◌, ◌≤◌, ◌&&◌, Bool, true, false, ℕ, List, [], ◌∷◌, ◌++◌, length, IsTrue};
 ghost use Rattle.ssr_syntax_kinds.specs.declared.reach.Reach.{Reach};
 ghost use Rattle.ssr_syntax_kinds.specs.declared.kinds.SyntaxKind.TheVariants as k;
-ghost use Rattle.ssr_syntax_forms.specs.Trees.{Forest, done, tree, join};
+ghost use Rattle.ssr_syntax_forms.specs.Kinds.{mem};
+ghost use Rattle.ssr_syntax_forms.specs.Trees.{Forest, join, leaf};
 ghost use Rattle.ssr_syntax_forms.specs.declared.tokens.Token.{Token};
 ghost use Rattle.ssr_syntax_types.specs.Literals.{literals};
 ghost use Rattle.ssr_syntax_types.specs.Paths.{path_names};
-ghost use Rattle.ssr_syntax_places.specs.Standing.{node, is_token, token_leaf, Stands};
+ghost use Rattle.ssr_syntax_types.specs.Types.{ampersands};
+ghost use Rattle.ssr_syntax_exprs.specs.Expressions.{operators, prefix_operators, ranks};
+ghost use Rattle.ssr_syntax_places.specs.Standing.{node, is_token, token_leaf, Stands, StandsAnywhere};
 
 /// A literal stands wherever an expression does, and so does a name.
 pub fn atoms()
@@ -14,4 +17,31 @@ pub fn atoms()
         → Stands reach 0 true (node k.LITERAL (token_leaf us)) us }
     ensures name { (reach : Reach) (us : List Token) → IsTrue (is_token path_names us)
         → Stands reach 0 true (node k.PATH_EXPR (node k.PATH (node k.PATH_SEGMENT (node k.NAME_REF (token_leaf us))))) us }
+{}
+
+/// What stands where an expression must bind tightly stands where it may bind more loosely, and as any expression.
+pub fn looser()
+    ensures looser { (reach : Reach) (n m : ℕ) (callable : Bool) (z : Forest) (us : List Token) → n ≤ m → Stands reach n callable z us
+        → Stands reach m callable z us }
+    ensures uncalled { (reach : Reach) (n : ℕ) (callable : Bool) (z : Forest) (us : List Token) → Stands reach n callable z us
+        → Stands reach n false z us }
+    ensures anywhere { (reach : Reach) (n : ℕ) (callable : Bool) (z : Forest) (us : List Token) → n ≤ 12 → Stands reach n callable z us
+        → StandsAnywhere reach z us }
+{}
+
+/// An operator in front of an operand, and one between two, stand where they may bind as loosely as they do, if their
+/// operands bind tightly enough: in front of a right operand of a rank stands a left one of at most that rank.
+pub fn operators()
+    ensures prefix { (reach : Reach) (callable : Bool) (y : Forest) (op us : List Token) → IsTrue (is_token prefix_operators op)
+        → Stands reach 2 callable y us → Stands reach 2 callable (node k.PREFIX_EXPR (join (token_leaf op) y)) (op ++ us) }
+    ensures reference { (reach : Reach) (callable : Bool) (y : Forest) (t : Token) (us : List Token)
+        → IsTrue (mem t.joined ampersands && mem t.kind ampersands)
+        → Stands reach 2 callable y us → Stands reach 2 callable (node k.REF_EXPR (leaf t.kind (t ∷ []) y)) (t ∷ us) }
+    ensures mut_reference { (reach : Reach) (callable : Bool) (y : Forest) (t : Token) (word us : List Token)
+        → IsTrue (mem t.joined ampersands && mem t.kind ampersands) → IsTrue (is_token (k.MUT_KW ∷ []) word)
+        → Stands reach 2 callable y us
+        → Stands reach 2 callable (node k.REF_EXPR (leaf t.kind (t ∷ []) (join (token_leaf word) y))) (t ∷ (word ++ us)) }
+    ensures binary { (reach : Reach) (r : ℕ) (called callable : Bool) (x y : Forest) (us op vs : List Token) → r < length ranks
+        → IsTrue (is_token (operators r) op) → Stands reach (4 + r) called x us → Stands reach (3 + r) callable y vs
+        → Stands reach (4 + r) callable (node k.BIN_EXPR (join (join x (token_leaf op)) y)) (us ++ (op ++ vs)) }
 {}
