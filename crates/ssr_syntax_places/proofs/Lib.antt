@@ -4,3 +4,6 @@ mod Following
 mod Atoms
 mod Climbing
 mod Operators
+mod Arguments
+mod Postfixes
+mod Parentheses

@@ -67,3 +67,22 @@ StandsAnywhere reach z us =
 abbrev pub StandsBefore : Reach → List Token → Forest → List Token → Type 0
 StandsBefore reach closing z us =
     (rest : List Token) → Fits (grammar_of reach) (grammar_of reach (Expr Anywhere)) done z us (closing ++ rest)
+
+-- ** Expressions with commas between them, before this bracket; one may stand behind the last.
+pub data AreArguments (reach : Reach) (closing : List Token) : Forest → List Token → Type 0 where
+  no_more : AreArguments reach closing done []
+  last : {z : Forest} {us : List Token} → StandsBefore reach closing z us → AreArguments reach closing z us
+  more : {z y : Forest} {us vs : List Token} (comma : List Token)
+      → is_token (k.COMMA ∷ []) comma ≡ true → StandsBefore reach comma z us → AreArguments reach closing y vs
+      → AreArguments reach closing (join (join z (token_leaf comma)) y) (us ++ (comma ++ vs))
+
+-- the tokens from one bracket to another, and what stands between them
+abbrev pub between : List Token → List Token → List Token → List Token
+between opening us closing = opening ++ (us ++ closing)
+
+abbrev pub bracketed : SyntaxKind → List Token → Forest → List Token → Forest
+bracketed kind opening z closing = node kind (join (join (token_leaf opening) z) (token_leaf closing))
+
+-- an expression, a dot and a name or a number behind it
+abbrev pub with_name : Forest → List Token → List Token → Forest
+with_name x dot name = join (join x (token_leaf dot)) (node k.NAME_REF (token_leaf name))

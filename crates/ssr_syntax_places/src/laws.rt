@@ -9,7 +9,7 @@ ghost use Rattle.ssr_syntax_types.specs.Literals.{literals};
 ghost use Rattle.ssr_syntax_types.specs.Paths.{path_names};
 ghost use Rattle.ssr_syntax_types.specs.Types.{ampersands};
 ghost use Rattle.ssr_syntax_exprs.specs.Expressions.{operators, prefix_operators, ranks};
-ghost use Rattle.ssr_syntax_places.specs.Standing.{node, is_token, token_leaf, Stands, StandsAnywhere};
+ghost use Rattle.ssr_syntax_places.specs.Standing.{node, is_token, token_leaf, Stands, StandsAnywhere, StandsBefore, AreArguments, between, bracketed, with_name};
 
 /// A literal stands wherever an expression does, and so does a name.
 pub fn atoms()
@@ -44,4 +44,38 @@ pub fn operators()
     ensures binary { (reach : Reach) (r : ℕ) (called callable : Bool) (x y : Forest) (us op vs : List Token) → r < length ranks
         → IsTrue (is_token (operators r) op) → Stands reach (4 + r) called x us → Stands reach (3 + r) callable y vs
         → Stands reach (4 + r) callable (node k.BIN_EXPR (join (join x (token_leaf op)) y)) (us ++ (op ++ vs)) }
+{}
+
+/// Whatever fits before a parenthesis stands in parentheses wherever an expression does.
+pub fn parentheses()
+    ensures { (reach : Reach) (z : Forest) (opening us closing : List Token)
+        → IsTrue (is_token (k.L_PAREN ∷ []) opening) → IsTrue (is_token (k.R_PAREN ∷ []) closing) → StandsBefore reach closing z us
+        → Stands reach 0 true (bracketed k.PAREN_EXPR opening z closing) (between opening us closing) }
+{}
+
+/// An expression that may be gone on with is gone on with by a `?`, an index, a call, a field and a call of a method,
+/// whatever stands in their brackets that fits before them. A field that has a name isn't called.
+pub fn postfixes()
+    ensures asked { (reach : Reach) (before : Bool) (x : Forest) (us op : List Token) → IsTrue (is_token (k.QUESTION ∷ []) op)
+        → Stands reach 1 before x us → Stands reach 1 true (node k.TRY_EXPR (join x (token_leaf op))) (us ++ op) }
+    ensures index { (reach : Reach) (before : Bool) (x y : Forest) (us opening vs closing : List Token)
+        → IsTrue (is_token (k.L_BRACK ∷ []) opening) → IsTrue (is_token (k.R_BRACK ∷ []) closing)
+        → Stands reach 1 before x us → StandsBefore reach closing y vs
+        → Stands reach 1 true (node k.INDEX_EXPR (join (join (join x (token_leaf opening)) y) (token_leaf closing))) (us ++ between opening vs closing) }
+    ensures call { (reach : Reach) (x y : Forest) (us opening vs closing : List Token)
+        → IsTrue (is_token (k.L_PAREN ∷ []) opening) → IsTrue (is_token (k.R_PAREN ∷ []) closing)
+        → Stands reach 1 true x us → AreArguments reach closing y vs
+        → Stands reach 1 true (node k.CALL_EXPR (join x (bracketed k.ARG_LIST opening y closing))) (us ++ between opening vs closing) }
+    ensures method_call { (reach : Reach) (before : Bool) (x y : Forest) (us dot name opening vs closing : List Token)
+        → IsTrue (is_token (k.DOT ∷ []) dot) → IsTrue (is_token (k.IDENT ∷ []) name)
+        → IsTrue (is_token (k.L_PAREN ∷ []) opening) → IsTrue (is_token (k.R_PAREN ∷ []) closing)
+        → Stands reach 1 before x us → AreArguments reach closing y vs
+        → Stands reach 1 true (node k.METHOD_CALL_EXPR (join (with_name x dot name) (bracketed k.ARG_LIST opening y closing)))
+        (us ++ (dot ++ (name ++ between opening vs closing))) }
+    ensures field { (reach : Reach) (before : Bool) (x : Forest) (us dot name : List Token)
+        → IsTrue (is_token (k.DOT ∷ []) dot) → IsTrue (is_token (k.IDENT ∷ []) name) → Stands reach 1 before x us
+        → Stands reach 1 false (node k.FIELD_EXPR (with_name x dot name)) (us ++ (dot ++ name)) }
+    ensures number { (reach : Reach) (before : Bool) (x : Forest) (us dot number : List Token)
+        → IsTrue (is_token (k.DOT ∷ []) dot) → IsTrue (is_token (k.INT_NUMBER ∷ []) number) → Stands reach 1 before x us
+        → Stands reach 1 true (node k.FIELD_EXPR (with_name x dot number)) (us ++ (dot ++ number)) }
 {}
