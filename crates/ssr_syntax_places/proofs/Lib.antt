@@ -7,3 +7,7 @@ mod Operators
 mod Arguments
 mod Postfixes
 mod Parentheses
+mod Ahead
+mod Closing
+mod Delimiters
+mod Delimited

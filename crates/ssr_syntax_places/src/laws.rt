@@ -2,13 +2,19 @@
 ghost use Rattle.std.specs.Prelude.{◌+◌, ◌<◌, ◌≤◌, ◌&&◌, Bool, true, false, ℕ, List, [], ◌∷◌, ◌++◌, length, IsTrue};
 ghost use Rattle.ssr_syntax_kinds.specs.declared.reach.Reach.{Reach};
 ghost use Rattle.ssr_syntax_kinds.specs.declared.kinds.SyntaxKind.TheVariants as k;
+ghost use Rattle.ssr_syntax_forms.specs.Fitting.{Fits};
+ghost use Rattle.ssr_syntax_forms.specs.Forms.{next};
 ghost use Rattle.ssr_syntax_forms.specs.Kinds.{mem};
-ghost use Rattle.ssr_syntax_forms.specs.Trees.{Forest, join, leaf};
+ghost use Rattle.ssr_syntax_forms.specs.Trees.{Forest, done, join, leaf};
 ghost use Rattle.ssr_syntax_forms.specs.declared.tokens.Token.{Token};
+ghost use Rattle.ssr_syntax_types.specs.declared.goals.ExprPlace.{ExprPlace};
+ghost use Rattle.ssr_syntax_types.specs.declared.goals.Goal.TheVariants.{Expr};
 ghost use Rattle.ssr_syntax_types.specs.Literals.{literals};
 ghost use Rattle.ssr_syntax_types.specs.Paths.{path_names};
 ghost use Rattle.ssr_syntax_types.specs.Types.{ampersands};
 ghost use Rattle.ssr_syntax_exprs.specs.Expressions.{operators, prefix_operators, ranks};
+ghost use Rattle.ssr_syntax.specs.Grammar.{grammar_of};
+ghost use Rattle.ssr_syntax_places.specs.Delimited.{are_whole, delimiters};
 ghost use Rattle.ssr_syntax_places.specs.Standing.{node, is_token, token_leaf, Stands, StandsAnywhere, StandsBefore, AreArguments, between, bracketed, with_name};
 
 /// A literal stands wherever an expression does, and so does a name.
@@ -78,4 +84,12 @@ pub fn postfixes()
     ensures number { (reach : Reach) (before : Bool) (x : Forest) (us dot number : List Token)
         → IsTrue (is_token (k.DOT ∷ []) dot) → IsTrue (is_token (k.INT_NUMBER ∷ []) number) → Stands reach 1 before x us
         → Stands reach 1 true (node k.FIELD_EXPR (with_name x dot number)) (us ++ (dot ++ number)) }
+{}
+
+/// An expression fits between brackets exactly if it fits alone: no rule on the way from it looks for a delimiter.
+pub fn delimited()
+    ensures { (reach : Reach) (place : ExprPlace) (z : Forest) (us a b : List Token) → IsTrue (are_whole us)
+        → IsTrue (mem (next a) delimiters) → IsTrue (mem (next b) delimiters)
+        → Fits (grammar_of reach) (grammar_of reach (Expr place)) done z us a
+        → Fits (grammar_of reach) (grammar_of reach (Expr place)) done z us b }
 {}
