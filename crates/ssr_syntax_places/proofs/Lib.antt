@@ -11,3 +11,5 @@ mod Ahead
 mod Closing
 mod Delimiters
 mod Delimited
+mod WholeTokens
+mod Alone

@@ -63,7 +63,11 @@ abbrev pub StandsAnywhere : Reach → Forest → List Token → Type 0
 StandsAnywhere reach z us =
     (rest : List Token) → may_follow false rest ≡ true → Fits (grammar_of reach) (grammar_of reach (Expr Anywhere)) done z us rest
 
--- an expression before this bracket, whatever follows the bracket
+-- what ends an expression in parentheses, in square brackets or among arguments
+abbrev pub closing_marks : List SyntaxKind
+closing_marks = k.R_PAREN ∷ k.R_BRACK ∷ k.COMMA ∷ []
+
+-- an expression before this token, which ends it, whatever follows
 abbrev pub StandsBefore : Reach → List Token → Forest → List Token → Type 0
 StandsBefore reach closing z us =
     (rest : List Token) → Fits (grammar_of reach) (grammar_of reach (Expr Anywhere)) done z us (closing ++ rest)

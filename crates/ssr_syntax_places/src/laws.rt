@@ -8,14 +8,17 @@ ghost use Rattle.ssr_syntax_forms.specs.Kinds.{mem};
 ghost use Rattle.ssr_syntax_forms.specs.Trees.{Forest, done, join, leaf};
 ghost use Rattle.ssr_syntax_forms.specs.declared.tokens.Token.{Token};
 ghost use Rattle.ssr_syntax_types.specs.declared.goals.ExprPlace.{ExprPlace};
+ghost use Rattle.ssr_syntax_types.specs.declared.goals.ExprPlace.TheVariants.{Anywhere};
 ghost use Rattle.ssr_syntax_types.specs.declared.goals.Goal.TheVariants.{Expr};
+ghost use Rattle.ssr_syntax_lex.specs.declared.tokens.RawToken.{RawToken};
+ghost use Rattle.ssr_syntax_rows.specs.Solid.{solid_tokens};
 ghost use Rattle.ssr_syntax_types.specs.Literals.{literals};
 ghost use Rattle.ssr_syntax_types.specs.Paths.{path_names};
 ghost use Rattle.ssr_syntax_types.specs.Types.{ampersands};
 ghost use Rattle.ssr_syntax_exprs.specs.Expressions.{operators, prefix_operators, ranks};
 ghost use Rattle.ssr_syntax.specs.Grammar.{grammar_of};
 ghost use Rattle.ssr_syntax_places.specs.Delimited.{are_whole, delimiters};
-ghost use Rattle.ssr_syntax_places.specs.Standing.{node, is_token, token_leaf, Stands, StandsAnywhere, StandsBefore, AreArguments, between, bracketed, with_name};
+ghost use Rattle.ssr_syntax_places.specs.Standing.{node, closing_marks, is_token, token_leaf, Stands, StandsAnywhere, StandsBefore, AreArguments, between, bracketed, with_name};
 
 /// A literal stands wherever an expression does, and so does a name.
 pub fn atoms()
@@ -86,10 +89,14 @@ pub fn postfixes()
         → Stands reach 1 true (node k.FIELD_EXPR (with_name x dot number)) (us ++ (dot ++ number)) }
 {}
 
-/// An expression fits between brackets exactly if it fits alone: no rule on the way from it looks for a delimiter.
+/// An expression fits between brackets exactly if it fits alone: no rule on the way from it looks for a delimiter. So what
+/// fits alone stands before a bracket or a comma. What is asked of its tokens holds of those of a text.
 pub fn delimited()
-    ensures { (reach : Reach) (place : ExprPlace) (z : Forest) (us a b : List Token) → IsTrue (are_whole us)
+    ensures alike { (reach : Reach) (place : ExprPlace) (z : Forest) (us a b : List Token) → IsTrue (are_whole us)
         → IsTrue (mem (next a) delimiters) → IsTrue (mem (next b) delimiters)
         → Fits (grammar_of reach) (grammar_of reach (Expr place)) done z us a
         → Fits (grammar_of reach) (grammar_of reach (Expr place)) done z us b }
+    ensures alone { (reach : Reach) (z : Forest) (us closing : List Token) → IsTrue (are_whole us) → IsTrue (is_token closing_marks closing)
+        → Fits (grammar_of reach) (grammar_of reach (Expr Anywhere)) done z us [] → StandsBefore reach closing z us }
+    ensures whole { (raw : List RawToken) → IsTrue (are_whole (solid_tokens raw)) }
 {}

@@ -1,5 +1,7 @@
+use Rattle.ssr_syntax_places.proofs.Alone.{alone_before}
 use Rattle.ssr_syntax_places.proofs.Delimited.{delimited_alike}
+use Rattle.ssr_syntax_places.proofs.WholeTokens.{whole_solid}
 use Rattle.ssr_syntax_places.proofs.laws.delimited.Goals as goal
 
 pub returns : goal.returns
-returns c = delimited_alike
+returns c = record { alike = delimited_alike; alone = alone_before; whole = whole_solid }
