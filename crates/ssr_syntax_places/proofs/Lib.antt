@@ -13,3 +13,5 @@ mod Delimiters
 mod Delimited
 mod WholeTokens
 mod Alone
+mod Filling
+mod CoreShapes

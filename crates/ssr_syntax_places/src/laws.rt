@@ -100,3 +100,8 @@ pub fn delimited()
         → Fits (grammar_of reach) (grammar_of reach (Expr Anywhere)) done z us [] → StandsBefore reach closing z us }
     ensures whole { (raw : List RawToken) → IsTrue (are_whole (solid_tokens raw)) }
 {}
+
+/// Try.
+pub fn filled()
+    ensures { (reach : Reach) → Unit {0} }
+{}
