@@ -172,7 +172,7 @@ dotted_tree : (x y : Forest) (a : SyntaxKind) (us name : List Token) → leaf a 
     → join x (leaf a us y) ≡ with_name x us name
 dotted_tree x y a us name same e = middle_tree x y a us same ∙ ap (λ w. join (join x (token_leaf us)) w) e
 
-field_by : (reach : Reach) (callable : Bool) (x : Forest) (ts us name : List Token) → is_token (k.DOT ∷ []) us ≡ true
+pub field_by : (reach : Reach) (callable : Bool) (x : Forest) (ts us name : List Token) → is_token (k.DOT ∷ []) us ≡ true
     → Stands reach 1 false x ts → is_token (k.INT_NUMBER ∷ []) name ≡ true → Stands reach 1 callable (node k.FIELD_EXPR (with_name x us name)) (ts ++ (us ++ name))
 field_by reach callable x ts us name dot operand number =
     stands_as reach 1 1 callable (node k.FIELD_EXPR (with_name x us name)) (ts ++ (us ++ name)) (omega arith) (number_stands reach false x ts us name dot number operand)

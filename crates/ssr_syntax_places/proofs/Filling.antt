@@ -32,7 +32,7 @@ no_hole : (o : Option Hole) (t : Token) → is_no_hole o ≡ true → token_fill
 no_hole None t is = refl
 no_hole (Some hole) t is = absurd (cc)
 
-spelled : (holes : Holes) (at : ℕ) (us : List Token) → are_spelled holes at us ≡ true → tokens_filled holes at us ≡ us
+pub spelled : (holes : Holes) (at : ℕ) (us : List Token) → are_spelled holes at us ≡ true → tokens_filled holes at us ≡ us
 spelled holes at [] is = refl
 spelled holes at (t ∷ us) is =
     let halves = and_parts (is_no_hole (holes at)) (are_spelled holes (at + 1) us) is in

@@ -15,3 +15,4 @@ mod WholeTokens
 mod Alone
 mod Filling
 mod CoreShapes
+mod CoreStands

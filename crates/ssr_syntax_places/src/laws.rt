@@ -1,11 +1,12 @@
 //! What holds of trees that fit, whatever the code: each function here does nothing, and what it ensures is a law.
 ghost use Rattle.std.specs.Prelude.{◌+◌, ◌<◌, ◌≤◌, ◌&&◌, Bool, true, false, ℕ, List, [], ◌∷◌, ◌++◌, length, IsTrue};
 ghost use Rattle.ssr_syntax_kinds.specs.declared.reach.Reach.{Reach};
+ghost use Rattle.ssr_syntax_kinds.specs.declared.kinds.SyntaxKind.{SyntaxKind};
 ghost use Rattle.ssr_syntax_kinds.specs.declared.kinds.SyntaxKind.TheVariants as k;
 ghost use Rattle.ssr_syntax_forms.specs.Fitting.{Fits};
 ghost use Rattle.ssr_syntax_forms.specs.Forms.{next};
 ghost use Rattle.ssr_syntax_forms.specs.Kinds.{mem};
-ghost use Rattle.ssr_syntax_forms.specs.Trees.{Forest, done, join, leaf};
+ghost use Rattle.ssr_syntax_forms.specs.Trees.{Forest, done, join, leaf, spell};
 ghost use Rattle.ssr_syntax_forms.specs.declared.tokens.Token.{Token};
 ghost use Rattle.ssr_syntax_types.specs.declared.goals.ExprPlace.{ExprPlace};
 ghost use Rattle.ssr_syntax_types.specs.declared.goals.ExprPlace.TheVariants.{Anywhere};
@@ -17,6 +18,7 @@ ghost use Rattle.ssr_syntax_types.specs.Paths.{path_names};
 ghost use Rattle.ssr_syntax_types.specs.Types.{ampersands};
 ghost use Rattle.ssr_syntax_exprs.specs.Expressions.{operators, prefix_operators, ranks};
 ghost use Rattle.ssr_syntax.specs.Grammar.{grammar_of};
+ghost use Rattle.ssr_syntax_places.specs.Core.{Holes, AreFillings, core, node_filled, tokens_filled};
 ghost use Rattle.ssr_syntax_places.specs.Delimited.{are_whole, delimiters};
 ghost use Rattle.ssr_syntax_places.specs.Standing.{node, closing_marks, is_token, token_leaf, Stands, StandsAnywhere, StandsBefore, AreArguments, between, bracketed, with_name};
 
@@ -101,7 +103,10 @@ pub fn delimited()
     ensures whole { (raw : List RawToken) → IsTrue (are_whole (solid_tokens raw)) }
 {}
 
-/// Try.
+/// A core template, in which names stand for expressions that bind tightly enough there, or stand in brackets, is filled
+/// with these to an expression that stands wherever the template does.
 pub fn filled()
-    ensures { (reach : Reach) → Unit {0} }
+    ensures stands { (reach : Reach) (holes : Holes) → AreFillings reach holes
+        → (callable : Bool) (n at : ℕ) (kind : SyntaxKind) (kids : Forest) → n ≤ 12 → IsTrue (core holes callable n at kind kids)
+        → Stands reach n callable (node_filled holes at kind kids) (tokens_filled holes at (spell kids)) }
 {}
