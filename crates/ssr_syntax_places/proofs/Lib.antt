@@ -16,3 +16,5 @@ mod Alone
 mod Filling
 mod CoreShapes
 mod CoreStands
+mod Fillings
+mod Insides

@@ -24,6 +24,9 @@ pub record Hole : Type 0 where
   pub tree : Forest
   pub tokens : List Token
 
+abbrev pub hole_of : ℕ → Bool → Forest → List Token → Hole
+hole_of n may_be_called z us = record { precedence = n; callable = may_be_called; tree = z; tokens = us }
+
 -- what the token of this number of a template stands for, if it stands for anything
 abbrev pub Holes : Type 0
 Holes = ℕ → Option Hole

@@ -1,3 +1,4 @@
 pub mod Standing
 pub mod Delimited
 pub mod Core
+pub mod Insides

@@ -1,5 +1,5 @@
 //! What holds of trees that fit, whatever the code: each function here does nothing, and what it ensures is a law.
-ghost use Rattle.std.specs.Prelude.{◌+◌, ◌<◌, ◌≤◌, ◌&&◌, Bool, true, false, ℕ, List, [], ◌∷◌, ◌++◌, length, IsTrue};
+ghost use Rattle.std.specs.Prelude.{Some, ◌≡◌, ◌+◌, ◌<◌, ◌≤◌, ◌&&◌, Bool, true, false, ℕ, List, [], ◌∷◌, ◌++◌, length, IsTrue};
 ghost use Rattle.ssr_syntax_kinds.specs.declared.reach.Reach.{Reach};
 ghost use Rattle.ssr_syntax_kinds.specs.declared.kinds.SyntaxKind.{SyntaxKind};
 ghost use Rattle.ssr_syntax_kinds.specs.declared.kinds.SyntaxKind.TheVariants as k;
@@ -18,8 +18,12 @@ ghost use Rattle.ssr_syntax_types.specs.Paths.{path_names};
 ghost use Rattle.ssr_syntax_types.specs.Types.{ampersands};
 ghost use Rattle.ssr_syntax_exprs.specs.Expressions.{operators, prefix_operators, ranks};
 ghost use Rattle.ssr_syntax.specs.Grammar.{grammar_of};
-ghost use Rattle.ssr_syntax_places.specs.Core.{Holes, AreFillings, core, node_filled, tokens_filled};
+ghost use Rattle.ssr_syntax_places.specs.Core.{Holes, hole_of, IsFilling, AreFillings, core, filled, node_filled, tokens_filled};
 ghost use Rattle.ssr_syntax_places.specs.Delimited.{are_whole, delimiters};
+ghost use Rattle.std.specs.Str.{IsUtf8};
+ghost use Rattle.ssr_syntax_lex.specs.Seams.{is_seam, has_token_at};
+ghost use Rattle.ssr_syntax_lex.specs.Tokens.{tokens};
+ghost use Rattle.ssr_syntax_places.specs.Insides.{with_inside, IsLexed, HasParts, AreParts};
 ghost use Rattle.ssr_syntax_places.specs.Standing.{node, closing_marks, is_token, token_leaf, Stands, StandsAnywhere, StandsBefore, AreArguments, between, bracketed, with_name};
 
 /// A literal stands wherever an expression does, and so does a name.
@@ -109,4 +113,27 @@ pub fn filled()
     ensures stands { (reach : Reach) (holes : Holes) → AreFillings reach holes
         → (callable : Bool) (n at : ℕ) (kind : SyntaxKind) (kids : Forest) → n ≤ 12 → IsTrue (core holes callable n at kind kids)
         → Stands reach n callable (node_filled holes at kind kids) (tokens_filled holes at (spell kids)) }
+    ensures fits { (reach : Reach) (holes : Holes) → AreFillings reach holes
+        → (kind : SyntaxKind) (kids : Forest) (rest : List Token) → IsTrue (core holes false 12 0 kind kids) → IsTrue (mem (next rest) delimiters)
+        → Fits (grammar_of reach) (grammar_of reach (Expr Anywhere)) done (filled holes 0 (node kind kids)) (tokens_filled holes 0 (spell (node kind kids))) rest }
+{}
+
+/// What stands may fill a template, and so may any expression that fits alone, though between brackets only.
+pub fn fillings()
+    ensures stands { (reach : Reach) (n : ℕ) (callable : Bool) (z : Forest) (us : List Token) → n ≤ 12 → Stands reach n callable z us
+        → IsFilling reach (hole_of n callable z us) }
+    ensures alone { (reach : Reach) (z : Forest) (us : List Token) → IsTrue (are_whole us)
+        → Fits (grammar_of reach) (grammar_of reach (Expr Anywhere)) done z us [] → IsFilling reach (hole_of 13 false z us) }
+{}
+
+/// What stands in a text between two brackets, commas or `;` is lexed by itself, if both are tokens of the text. Any other
+/// text that is lexed may stand in its place: the tokens around it stay what they are, and so do their texts.
+pub fn insides()
+    ensures cut { (front inside behind : List ℕ) (opening closing : ℕ) (raw : List RawToken) → IsUtf8 front → IsUtf8 inside
+        → IsTrue (is_seam opening) → IsTrue (is_seam closing) → tokens (with_inside front opening inside (closing ∷ behind)) ≡ Some raw
+        → IsTrue (has_token_at (length front) raw) → IsTrue (has_token_at ((length front + 1) + length inside) raw)
+        → AreParts front opening inside (closing ∷ behind) raw }
+    ensures put { (front inside behind : List ℕ) (opening closing : ℕ) (before within after : List RawToken) → IsUtf8 front
+        → IsTrue (is_seam opening) → IsTrue (is_seam closing) → IsLexed (front ++ opening ∷ []) before → IsLexed inside within
+        → tokens (closing ∷ behind) ≡ Some after → HasParts front opening inside (closing ∷ behind) before within after }
 {}
