@@ -14,15 +14,16 @@ use Rattle.ssr_syntax_types.specs.Literals.{literals}
 use Rattle.ssr_syntax_types.specs.Paths.{path_names}
 use Rattle.ssr_syntax_types.specs.Types.{ampersands}
 use Rattle.ssr_syntax_exprs.specs.Expressions.{operators, prefix_operators, ranks}
-use Rattle.ssr_syntax_places.specs.Standing.{node, is_token, token_leaf, between, bracketed, with_name, Stands, StandsBefore, AreArguments}
-use Rattle.ssr_syntax_places.specs.Core.{Holes, tokens_filled, path_filled, filled, node_filled, are_spelled}
+use Rattle.ssr_syntax_places.specs.Standing.{node, is_token, token_leaf, segment, IsPath, one, longer, between, bracketed, with_name, Stands, StandsBefore, AreArguments}
+use Rattle.ssr_syntax_places.specs.Core.{Holes, tokens_filled, path_filled, filled, node_filled, is_leaf, is_segment, is_path}
 use Rattle.ssr_syntax_places.proofs.Arguments.{join-done, join_assoc}
-use Rattle.ssr_syntax_places.proofs.Atoms.{literal_stands, name_stands, name_expr}
+use Rattle.ssr_syntax_places.proofs.Atoms.{literal_stands}
+use Rattle.ssr_syntax_places.proofs.Paths.{path_stands}
 use Rattle.ssr_syntax_places.proofs.Climbing.{stands_looser}
 use Rattle.ssr_syntax_places.proofs.Operators.{prefix_stands, reference_stands, mut_reference_stands, binary_stands}
 use Rattle.ssr_syntax_places.proofs.Parentheses.{paren_stands}
 use Rattle.ssr_syntax_places.proofs.Postfixes.{try_stands, index_stands, call_stands, method_call_stands, field_stands, number_stands}
-use Rattle.ssr_syntax_places.proofs.Filling.{IsLeaf, StandsFilled, StandsFilledBefore, as_same, stands_as, leaf_in_front, last_tokens, tokens_front, tokens_behind, tokens_end}
+use Rattle.ssr_syntax_places.proofs.Filling.{IsLeaf, leaf_told, StandsFilled, StandsFilledBefore, as_same, stands_as, leaf_in_front, last_tokens, tokens_front, tokens_behind, tokens_end}
 
 -- ** Atoms.
 
@@ -33,18 +34,86 @@ literal_filled reach holes callable n at a us is =
     (ap (node k.LITERAL) is.tree) (tokens_end holes at us is.tokens)
     (stands_as reach 0 n callable (node k.LITERAL (token_leaf us)) us (omega arith) (literal_stands reach us is.token))
 
-nested : (us : List Token) → (((us ++ []) ++ []) ++ []) ++ [] ≡ us
-nested us = append-nil (((us ++ []) ++ []) ++ []) ∙ append-nil ((us ++ []) ++ []) ∙ append-nil (us ++ []) ∙ append-nil us
+-- ** Paths of names.
 
-pub name_filled : (reach : Reach) (holes : Holes) (callable : Bool) (n at : ℕ) (a : SyntaxKind) (us : List Token) → holes at ≡ None
-    → IsLeaf holes at path_names a us
-    → StandsFilled reach holes callable n at k.PATH_EXPR (tree k.PATH (tree k.PATH_SEGMENT (tree k.NAME_REF (leaf a us done) done) done) done)
-name_filled reach holes callable n at a us e is =
-    let kids : Forest = node k.PATH (node k.PATH_SEGMENT (node k.NAME_REF (leaf a us done))) in
-    as_same reach n callable (name_expr us) (node_filled holes at k.PATH_EXPR kids) us (tokens_filled holes at (spell kids))
-    (ap (λ o. path_filled o kids) e ∙ ap (λ w. node k.PATH_EXPR (node k.PATH (node k.PATH_SEGMENT (node k.NAME_REF w)))) is.tree)
-    (ap (tokens_filled holes at) (nested us) ∙ is.tokens)
-    (stands_as reach 0 n callable (name_expr us) us (omega arith) (name_stands reach us is.token))
+record IsSegment (holes : Holes) (at : ℕ) (kind : SyntaxKind) (kids : Forest) : Type 0 where
+  name : List Token
+  token : is_token path_names name ≡ true
+  is : node kind kids ≡ segment name
+  tokens : spell kids ≡ name
+  same : tokens_filled holes at (spell kids) ≡ spell kids
+
+segment_told : (holes : Holes) (at : ℕ) (kind : SyntaxKind) (kids : Forest) → is_segment holes at kind kids ≡ true → IsSegment holes at kind kids
+segment_told holes at kind (tree r (leaf a us done) done) is =
+    let halves = and_parts (same_kind kind k.PATH_SEGMENT) (same_kind r k.NAME_REF && is_leaf holes at path_names a us) is in
+    let both = and_parts (same_kind r k.NAME_REF) (is_leaf holes at path_names a us) halves.1 in
+    let leaf_is = leaf_told holes at path_names a us both.1 in
+    let spelling : (us ++ []) ++ [] ≡ us = append-nil (us ++ []) ∙ append-nil us in
+    record {
+      name = us;
+      token = leaf_is.token;
+      is =
+          ap (λ w. node w (node r (leaf a us done))) (same_kind-equal kind k.PATH_SEGMENT halves.0)
+          ∙ ap (λ w. node k.PATH_SEGMENT (node w (leaf a us done))) (same_kind-equal r k.NAME_REF both.0)
+          ∙ ap (λ w. node k.PATH_SEGMENT (node k.NAME_REF w)) leaf_is.tree;
+      tokens = spelling;
+      same = ap (tokens_filled holes at) spelling ∙ leaf_is.tokens ∙ sym spelling;
+    }
+segment_told holes at kind _ is = absurd (cc)
+
+pub record IsPathSpelled (holes : Holes) (at : ℕ) (path : Forest) : Type 0 where
+  pub is : IsPath (node k.PATH path) (spell path)
+  pub same : tokens_filled holes at (spell path) ≡ spell path
+
+path_as : (z w : Forest) (us vs : List Token) → w ≡ z → vs ≡ us → IsPath z us → IsPath w vs
+path_as z w us vs e d is = subst (λ m. IsPath m vs) (sym e) (subst (λ m. IsPath z m) (sym d) is)
+
+one_told : (holes : Holes) (at : ℕ) (s : SyntaxKind) (kids : Forest) → IsSegment holes at s kids → IsPathSpelled holes at (tree s kids done)
+one_told holes at s kids seg = record {
+  is = path_as (node k.PATH (segment seg.name)) (node k.PATH (node s kids)) seg.name (spell kids ++ []) (ap (node k.PATH) seg.is) (append-nil (spell kids) ∙ seg.tokens)
+      (one seg.name seg.token);
+  same = ap (tokens_filled holes at) (append-nil (spell kids)) ∙ seg.same ∙ sym (append-nil (spell kids));
+}
+
+longer_told : (holes : Holes) (at : ℕ) (a s : SyntaxKind) (us : List Token) (path kids : Forest) → IsPathSpelled holes at path
+    → IsLeaf holes (at + length (spell path)) (k.COLON2 ∷ []) a us → IsSegment holes ((at + length (spell path)) + length us) s kids
+    → IsPathSpelled holes at (tree k.PATH path (leaf a us (tree s kids done)))
+longer_told holes at a s us path kids front colons seg =
+    let behind : ℕ = (at + length (spell path)) + length us in
+    record {
+      is = path_as (node k.PATH (join (join (node k.PATH path) (token_leaf us)) (segment seg.name))) (node k.PATH (tree k.PATH path (leaf a us (node s kids))))
+          (spell path ++ (us ++ seg.name)) (spell path ++ (us ++ (spell kids ++ [])))
+          (ap (λ w. node k.PATH (tree k.PATH path w)) (leaf_in_front a us (node s kids) colons.tree ∙ ap (λ w. join (token_leaf us) w) seg.is))
+          (ap (λ w. spell path ++ (us ++ w)) (append-nil (spell kids) ∙ seg.tokens))
+          (longer us seg.name front.is colons.token seg.token);
+      same =
+          tokens_behind holes at (spell path) (us ++ (spell kids ++ [])) (us ++ (spell kids ++ []))
+          (tokens_front holes (at + length (spell path)) us (spell kids ++ []) (spell kids ++ []) colons.tokens
+          (last_tokens holes behind (spell kids) ∙ seg.same ∙ sym (append-nil (spell kids))))
+          ∙ ap (λ w. w ++ (us ++ (spell kids ++ []))) front.same;
+    }
+
+pub path_told : (holes : Holes) (at : ℕ) (path : Forest) → is_path holes at path ≡ true → IsPathSpelled holes at path
+path_told holes at (tree s kids done) is = one_told holes at s kids (segment_told holes at s kids is)
+path_told holes at (tree p path (leaf a us (tree s kids done))) is =
+    let halves = and_parts (same_kind p k.PATH && is_path holes at path)
+    (is_leaf holes (at + length (spell path)) (k.COLON2 ∷ []) a us && is_segment holes ((at + length (spell path)) + length us) s kids) is in
+    let front = and_parts (same_kind p k.PATH) (is_path holes at path) halves.0 in
+    let last = and_parts (is_leaf holes (at + length (spell path)) (k.COLON2 ∷ []) a us) (is_segment holes ((at + length (spell path)) + length us) s kids) halves.1 in
+    subst (λ w. IsPathSpelled holes at (tree w path (leaf a us (tree s kids done)))) (sym (same_kind-equal p k.PATH front.0))
+    (longer_told holes at a s us path kids (path_told holes at path front.1)
+    (leaf_told holes (at + length (spell path)) (k.COLON2 ∷ []) a us last.0) (segment_told holes ((at + length (spell path)) + length us) s kids last.1))
+path_told holes at _ is = absurd (cc)
+
+pub path_filled_stands : (reach : Reach) (holes : Holes) (callable : Bool) (n at : ℕ) (path : Forest) → holes at ≡ None → IsPathSpelled holes at path
+    → StandsFilled reach holes callable n at k.PATH_EXPR (tree k.PATH path done)
+path_filled_stands reach holes callable n at path e told =
+    let z : Forest = node k.PATH_EXPR (node k.PATH path) in
+    as_same reach n callable z (node_filled holes at k.PATH_EXPR (node k.PATH path)) (spell path) (tokens_filled holes at (spell path ++ []))
+    (ap (λ o. path_filled o (node k.PATH path)) e) (last_tokens holes at (spell path) ∙ told.same)
+    (stands_as reach 0 n callable z (spell path) (omega arith) (path_stands reach (node k.PATH path) (spell path) told.is))
+
+-- ** In parentheses.
 
 pub paren_filled : (reach : Reach) (holes : Holes) (callable : Bool) (n at : ℕ) (a b m : SyntaxKind) (us vs : List Token) (xs : Forest)
     → IsLeaf holes at (k.L_PAREN ∷ []) a us → IsLeaf holes ((at + length us) + length (spell xs)) (k.R_PAREN ∷ []) b vs

@@ -13,17 +13,16 @@ use Rattle.ssr_syntax_forms.specs.Kinds.{mem}
 use Rattle.ssr_syntax_forms.specs.Trees.{Forest, done, leaf, tree, join, spell}
 use Rattle.ssr_syntax_forms.proofs.Shared.{every, every_mem}
 use Rattle.ssr_syntax_types.specs.Literals.{literals}
-use Rattle.ssr_syntax_types.specs.Paths.{path_names}
 use Rattle.ssr_syntax_types.specs.Types.{ampersands}
 use Rattle.ssr_syntax_exprs.specs.Expressions.{operators, prefix_operators, ranks}
 use Rattle.ssr_syntax.specs.Operands.{row_in}
 use Rattle.ssr_syntax_places.specs.Standing.{node, is_token, token_leaf, closing_marks, with_name, Stands, StandsBefore, AreArguments, no_more, last, more}
-use Rattle.ssr_syntax_places.specs.Core.{Hole, Holes, AreFillings, tokens_filled, filled, node_filled, are_spelled, is_leaf, is_ampersand, is_single, is_held, binds_enough, is_name_ref, member_names, core, arguments}
+use Rattle.ssr_syntax_places.specs.Core.{Hole, Holes, AreFillings, tokens_filled, filled, node_filled, are_spelled, is_leaf, is_ampersand, is_single, is_held, binds_enough, is_path, is_name_ref, member_names, core, arguments}
 use Rattle.ssr_syntax_places.proofs.Arguments.{join_assoc}
 use Rattle.ssr_syntax_places.proofs.Climbing.{stands_anywhere, stands_before}
 use Rattle.ssr_syntax_places.proofs.Postfixes.{field_stands}
 use Rattle.ssr_syntax_places.proofs.Filling.{IsLeaf, StandsFilled, StandsFilledBefore, leaf_told, leaf_in_front, hole_stands, held_before, tokens_behind, tokens_front, tokens_end, spelled}
-use Rattle.ssr_syntax_places.proofs.CoreShapes.{IsNameRef, AreFilled, literal_filled, name_filled, paren_filled, prefix_filled, reference_filled, mut_reference_filled, try_filled, index_filled, name_told, field_by, field_filled, binary_filled, call_filled, method_call_filled}
+use Rattle.ssr_syntax_places.proofs.CoreShapes.{IsNameRef, AreFilled, literal_filled, path_told, path_filled_stands, paren_filled, prefix_filled, reference_filled, mut_reference_filled, try_filled, index_filled, name_told, field_by, field_filled, binary_filled, call_filled, method_call_filled}
 
 -- ** What the tests tell.
 
@@ -36,33 +35,17 @@ chosen : (b x y : Bool) → (if b then x else y) ≡ true → ((b ≡ true) × (
 chosen true x y e = inl (refl, e)
 chosen false x y e = inr e
 
--- a name alone
-named : (reach : Reach) (holes : Holes) (callable : Bool) (n at : ℕ) (p s r a : SyntaxKind) (us : List Token) → holes at ≡ None
-    → (same_kind p k.PATH && (same_kind s k.PATH_SEGMENT && (same_kind r k.NAME_REF && is_leaf holes at path_names a us))) ≡ true
-    → StandsFilled reach holes callable n at k.PATH_EXPR (tree p (tree s (tree r (leaf a us done) done) done) done)
-named reach holes callable n at p s r a us e is =
-    let path = and_parts (same_kind p k.PATH) (same_kind s k.PATH_SEGMENT && (same_kind r k.NAME_REF && is_leaf holes at path_names a us)) is in
-    let segment = and_parts (same_kind s k.PATH_SEGMENT) (same_kind r k.NAME_REF && is_leaf holes at path_names a us) path.1 in
-    let name = and_parts (same_kind r k.NAME_REF) (is_leaf holes at path_names a us) segment.1 in
-    subst (λ w. StandsFilled reach holes callable n at k.PATH_EXPR (tree w (tree s (tree r (leaf a us done) done) done) done)) (sym (same_kind-equal p k.PATH path.0))
-    (subst (λ w. StandsFilled reach holes callable n at k.PATH_EXPR (tree k.PATH (tree w (tree r (leaf a us done) done) done) done)) (sym (same_kind-equal s k.PATH_SEGMENT segment.0))
-    (subst (λ w. StandsFilled reach holes callable n at k.PATH_EXPR (tree k.PATH (tree k.PATH_SEGMENT (tree w (leaf a us done) done) done) done)) (sym (same_kind-equal r k.NAME_REF name.0))
-    (name_filled reach holes callable n at a us e (leaf_told holes at path_names a us name.1))))
-
--- the tokens of a path of one name
-path_tokens : (us : List Token) → (((us ++ []) ++ []) ++ []) ++ [] ≡ us
-path_tokens us = append-nil (((us ++ []) ++ []) ++ []) ∙ append-nil ((us ++ []) ++ []) ∙ append-nil (us ++ []) ∙ append-nil us
-
-name_or_hole : (reach : Reach) (holes : Holes) → AreFillings reach holes → (callable : Bool) (n at : ℕ) (p s r a : SyntaxKind) (us : List Token) → n ≤ 12
-    → (o : Option Hole) → holes at ≡ o
-    → binds_enough o callable n
-    (same_kind p k.PATH && (same_kind s k.PATH_SEGMENT && (same_kind r k.NAME_REF && is_leaf holes at path_names a us))) us ≡ true
-    → StandsFilled reach holes callable n at k.PATH_EXPR (tree p (tree s (tree r (leaf a us done) done) done) done)
-name_or_hole reach holes are callable n at p s r a us few None e is = named reach holes callable n at p s r a us e is
-name_or_hole reach holes are callable n at p s r a us few (Some hole) e is =
-    let halves = and_parts (is_single us) (nat_le hole.precedence n && (hole.callable || not callable)) is in
-    hole_stands reach holes callable n at hole (tree p (tree s (tree r (leaf a us done) done) done) done) e (are at hole e)
-    (ap is_single (path_tokens us) ∙ halves.0) halves.1 few
+-- a path of names, or a name that stands for something
+path_or_hole : (reach : Reach) (holes : Holes) → AreFillings reach holes → (callable : Bool) (n at : ℕ) (p : SyntaxKind) (path : Forest) → n ≤ 12
+    → (o : Option Hole) → holes at ≡ o → binds_enough o callable n (same_kind p k.PATH && is_path holes at path) (spell path) ≡ true
+    → StandsFilled reach holes callable n at k.PATH_EXPR (tree p path done)
+path_or_hole reach holes are callable n at p path few None e is =
+    let halves = and_parts (same_kind p k.PATH) (is_path holes at path) is in
+    subst (λ w. StandsFilled reach holes callable n at k.PATH_EXPR (tree w path done)) (sym (same_kind-equal p k.PATH halves.0))
+    (path_filled_stands reach holes callable n at path e (path_told holes at path halves.1))
+path_or_hole reach holes are callable n at p path few (Some hole) e is =
+    let halves = and_parts (is_single (spell path)) (nat_le hole.precedence n && (hole.callable || not callable)) is in
+    hole_stands reach holes callable n at hole (tree p path done) e (are at hole e) (ap is_single (append-nil (spell path)) ∙ halves.0) halves.1 few
 
 -- a token of fewer kinds
 fewer_kinds : (ks ls : List SyntaxKind) (us : List Token) → every (λ kind. mem kind ls) ks ≡ true → is_token ks us ≡ true → is_token ls us ≡ true
@@ -233,10 +216,10 @@ mutual
       let halves = and_parts (same_kind kind k.LITERAL) (is_leaf holes at literals a us) is in
       of_kind reach holes callable n at kind k.LITERAL (leaf a us done) halves.0
       (literal_filled reach holes callable n at a us (leaf_told holes at literals a us halves.1))
-  core_stands reach holes are callable n at kind (tree p (tree s (tree r (leaf a us done) done) done) done) few is =
+  core_stands reach holes are callable n at kind (tree p path done) few is =
       let halves = and_parts _ _ is in
-      of_kind reach holes callable n at kind k.PATH_EXPR (tree p (tree s (tree r (leaf a us done) done) done) done) halves.0
-      (name_or_hole reach holes are callable n at p s r a us few (holes at) refl halves.1)
+      of_kind reach holes callable n at kind k.PATH_EXPR (tree p path done) halves.0
+      (path_or_hole reach holes are callable n at p path few (holes at) refl halves.1)
   core_stands reach holes are callable n at kind (leaf a us (tree m xs done)) few is =
       let halves = and_parts _ _ is in
       let front = and_parts _ _ halves.0 in

@@ -180,3 +180,13 @@ pub no_turn_more_in : {Goal : Type 0} (b : Bool) (grammar : Productions Goal) (f
     → FitsIn b grammar (f then g) x z us rest → FitsIn b grammar (f then (g then many test h)) x z us rest
 no_turn_more_in true grammar f g test h = no_turn_more (in_reach true grammar) (widened f) (widened g) test (widened h)
 no_turn_more_in false grammar f g test h = no_turn_more (in_reach false grammar) f g test h
+
+-- one more form behind two, which takes nothing
+more_behind : {Goal : Type 0} (grammar : Productions Goal) (f g h : Form Goal) (x z : Forest) (us rest : List Token) → Fits grammar (f then g) x z us rest
+    → Fits grammar h z z [] rest → Fits grammar (f then (g then h)) x z us rest
+more_behind grammar f g h x z _ rest (behind {y = w} {us = taken} {vs = left} a b) c = behind a (behind_still grammar g h w z z left rest b c)
+
+pub then_more_in : {Goal : Type 0} (b : Bool) (grammar : Productions Goal) (f g h : Form Goal) (x z : Forest) (us rest : List Token)
+    → FitsIn b grammar (f then g) x z us rest → FitsIn b grammar h z z [] rest → FitsIn b grammar (f then (g then h)) x z us rest
+then_more_in true grammar f g h = more_behind (in_reach true grammar) (widened f) (widened g) (widened h)
+then_more_in false grammar f g h = more_behind (in_reach false grammar) f g h

@@ -2,6 +2,7 @@ pub mod Shared
 mod InReach
 mod Following
 mod Atoms
+mod Paths
 mod Climbing
 mod Operators
 mod Arguments

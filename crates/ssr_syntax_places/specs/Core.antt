@@ -91,16 +91,30 @@ is_single [] = false
 is_single (t ∷ []) = true
 is_single (t ∷ u ∷ us) = false
 
--- ** Core expressions: literals, names, parentheses, `?`, indices, calls, fields, operators in front and between.
+-- ** Core expressions: literals, paths of names, parentheses, `?`, indices, calls, fields, operators in front and between.
 
 -- a name that stands for an expression, however loosely that binds
 abbrev pub is_held : Holes → ℕ → SyntaxKind → Forest → Bool
 is_held holes at kind kids = same_kind kind k.PATH_EXPR && (is_single (spell kids) && not (is_no_hole (holes at)))
 
--- a name, or one that stands for what binds tightly enough
+-- a path of names, or a name that stands for what binds tightly enough
 abbrev pub binds_enough : Option Hole → Bool → ℕ → Bool → List Token → Bool
-binds_enough None callable n is_name us = is_name
-binds_enough (Some hole) callable n is_name us = is_single us && (nat_le hole.precedence n && (hole.callable || not callable))
+binds_enough None callable n is_names us = is_names
+binds_enough (Some hole) callable n is_names us = is_single us && (nat_le hole.precedence n && (hole.callable || not callable))
+
+-- a segment of a path that is a name, which stands for itself
+abbrev pub is_segment : Holes → ℕ → SyntaxKind → Forest → Bool
+is_segment holes at kind (tree r (leaf a us done) done) =
+    same_kind kind k.PATH_SEGMENT && (same_kind r k.NAME_REF && is_leaf holes at path_names a us)
+is_segment holes at kind _ = false
+
+-- what is below a path of names
+abbrev pub is_path : Holes → ℕ → Forest → Bool
+is_path holes at (tree s kids done) = is_segment holes at s kids
+is_path holes at (tree p path (leaf a us (tree s kids done))) =
+    same_kind p k.PATH && is_path holes at path
+    && (is_leaf holes (at + length (spell path)) (k.COLON2 ∷ []) a us && is_segment holes ((at + length (spell path)) + length us) s kids)
+is_path holes at _ = false
 
 -- the name of a field or a method
 abbrev pub is_name_ref : Holes → ℕ → List SyntaxKind → SyntaxKind → Forest → Bool
@@ -117,10 +131,8 @@ abbrev mutual
   -- `at` is the number of its first token.
   pub core : Holes → Bool → ℕ → ℕ → SyntaxKind → Forest → Bool
   core holes callable n at kind (leaf a us done) = same_kind kind k.LITERAL && is_leaf holes at literals a us
-  core holes callable n at kind (tree p (tree s (tree r (leaf a us done) done) done) done) =
-      same_kind kind k.PATH_EXPR
-      && binds_enough (holes at) callable n
-      (same_kind p k.PATH && (same_kind s k.PATH_SEGMENT && (same_kind r k.NAME_REF && is_leaf holes at path_names a us))) us
+  core holes callable n at kind (tree p path done) =
+      same_kind kind k.PATH_EXPR && binds_enough (holes at) callable n (same_kind p k.PATH && is_path holes at path) (spell path)
   core holes callable n at kind (leaf a us (tree m xs done)) =
       nat_le 2 n && core holes callable 2 (at + length us) m xs
       && (same_kind kind k.PREFIX_EXPR && is_leaf holes at prefix_operators a us || same_kind kind k.REF_EXPR && is_ampersand holes at a us)

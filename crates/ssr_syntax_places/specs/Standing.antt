@@ -13,6 +13,7 @@ use Rattle.ssr_syntax_forms.specs.Trees.{Forest, done, leaf, tree, join}
 use Rattle.ssr_syntax_types.specs.declared.goals.Goal.{Goal}
 use Rattle.ssr_syntax_types.specs.declared.goals.Goal.TheVariants.{Expr}
 use Rattle.ssr_syntax_types.specs.declared.goals.ExprPlace.TheVariants.{Anywhere}
+use Rattle.ssr_syntax_types.specs.Paths.{path_names}
 use Rattle.ssr_syntax_exprs.specs.Atoms.{async_closure_ahead, operand_first}
 use Rattle.ssr_syntax_exprs.specs.Expressions.{atom, postfix_expr, unary, operand, raw_ahead}
 use Rattle.ssr_syntax.specs.Grammar.{grammar_of}
@@ -31,6 +32,17 @@ is_token ks (t ∷ us) = mem t.joined ks && nat_eq (t.size - 1) (length us)
 abbrev pub token_leaf : List Token → Forest
 token_leaf [] = done
 token_leaf (t ∷ us) = leaf t.joined (t ∷ us) done
+
+-- the segment of a path that is a name alone
+abbrev pub segment : List Token → Forest
+segment name = node k.PATH_SEGMENT (node k.NAME_REF (token_leaf name))
+
+-- names with `::` between them
+pub data IsPath : Forest → List Token → Type 0 where
+  one : (name : List Token) → is_token path_names name ≡ true → IsPath (node k.PATH (segment name)) name
+  longer : {z : Forest} {us : List Token} (colons name : List Token)
+      → IsPath z us → is_token (k.COLON2 ∷ []) colons ≡ true → is_token path_names name ≡ true
+      → IsPath (node k.PATH (join (join z (token_leaf colons)) (segment name))) (us ++ (colons ++ name))
 
 -- ** Precedence, as `precedence` counts it: 0 stands for itself, 1 is gone on with, 2 has an operator in front, 3 is a cast,
 -- and behind those come the ranks of operators between operands.

@@ -14,7 +14,6 @@ ghost use Rattle.ssr_syntax_types.specs.declared.goals.Goal.TheVariants.{Expr};
 ghost use Rattle.ssr_syntax_lex.specs.declared.tokens.RawToken.{RawToken};
 ghost use Rattle.ssr_syntax_rows.specs.Solid.{solid_tokens};
 ghost use Rattle.ssr_syntax_types.specs.Literals.{literals};
-ghost use Rattle.ssr_syntax_types.specs.Paths.{path_names};
 ghost use Rattle.ssr_syntax_types.specs.Types.{ampersands};
 ghost use Rattle.ssr_syntax_exprs.specs.Expressions.{operators, prefix_operators, ranks};
 ghost use Rattle.ssr_syntax.specs.Grammar.{grammar_of};
@@ -24,14 +23,13 @@ ghost use Rattle.std.specs.Str.{IsUtf8};
 ghost use Rattle.ssr_syntax_lex.specs.Seams.{is_seam, has_token_at};
 ghost use Rattle.ssr_syntax_lex.specs.Tokens.{tokens};
 ghost use Rattle.ssr_syntax_places.specs.Insides.{with_inside, IsLexed, HasParts, AreParts};
-ghost use Rattle.ssr_syntax_places.specs.Standing.{node, closing_marks, is_token, token_leaf, Stands, StandsAnywhere, StandsBefore, AreArguments, between, bracketed, with_name};
+ghost use Rattle.ssr_syntax_places.specs.Standing.{node, closing_marks, is_token, IsPath, token_leaf, Stands, StandsAnywhere, StandsBefore, AreArguments, between, bracketed, with_name};
 
-/// A literal stands wherever an expression does, and so does a name.
+/// A literal stands wherever an expression does, and so does a path of names.
 pub fn atoms()
     ensures literal { (reach : Reach) (us : List Token) → IsTrue (is_token literals us)
         → Stands reach 0 true (node k.LITERAL (token_leaf us)) us }
-    ensures name { (reach : Reach) (us : List Token) → IsTrue (is_token path_names us)
-        → Stands reach 0 true (node k.PATH_EXPR (node k.PATH (node k.PATH_SEGMENT (node k.NAME_REF (token_leaf us))))) us }
+    ensures path { (reach : Reach) (z : Forest) (us : List Token) → IsPath z us → Stands reach 0 true (node k.PATH_EXPR z) us }
 {}
 
 /// What stands where an expression must bind tightly stands where it may bind more loosely, and as any expression.
