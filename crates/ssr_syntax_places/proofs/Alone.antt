@@ -25,4 +25,4 @@ delimits (t ∷ us) rest is =
 pub alone_before : (reach : Reach) (z : Forest) (us closing : List Token) → are_whole us ≡ true → is_token closing_marks closing ≡ true
     → Fits (grammar_of reach) (grammar_of reach (Expr Anywhere)) done z us [] → StandsBefore reach closing z us
 alone_before reach z us closing whole is fits rest =
-    delimited_alike reach Anywhere z us [] (closing ++ rest) whole refl (delimits closing rest is) fits
+    delimited_alike reach (Expr Anywhere) z us [] (closing ++ rest) refl whole refl (delimits closing rest is) fits

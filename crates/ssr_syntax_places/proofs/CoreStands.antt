@@ -26,6 +26,9 @@ use Rattle.ssr_syntax_places.proofs.CoreShapes.{IsNameRef, AreFilled, literal_fi
 
 -- ** What the tests tell.
 
+all_ranks_fit : 12 ≤ 12
+all_ranks_fit = omega arith
+
 of_kind : (reach : Reach) (holes : Holes) (callable : Bool) (n at : ℕ) (kind other : SyntaxKind) (kids : Forest) → same_kind kind other ≡ true
     → StandsFilled reach holes callable n at other kids → StandsFilled reach holes callable n at kind kids
 of_kind reach holes callable n at kind other kids same stands =
@@ -243,7 +246,7 @@ mutual
       let closing = fewer_kinds (k.R_PAREN ∷ []) closing_marks vs refl closes.token in
       let inside : StandsFilledBefore reach holes vs inner m xs = elim (or_cases _ _ halves.0) [
         | inl held ↦ held_before reach holes vs inner m xs are closing held
-        | inr operand ↦ core_before reach holes vs inner m xs closing (core_stands reach holes are false 12 inner m xs (omega arith) operand)
+        | inr operand ↦ core_before reach holes vs inner m xs closing (core_stands reach holes are false 12 inner m xs all_ranks_fit operand)
       ] in
       of_kind reach holes callable n at kind k.PAREN_EXPR (leaf a us (tree m xs (leaf b vs done))) whole.0
       (paren_filled reach holes callable n at a b m us vs xs opens closes inside)
@@ -290,7 +293,7 @@ mutual
       let closing = fewer_kinds (k.R_BRACK ∷ []) closing_marks vs refl closes.token in
       let inside : StandsFilledBefore reach holes vs behind j ys = elim (or_cases _ _ operands.1) [
         | inl held ↦ held_before reach holes vs behind j ys are closing held
-        | inr operand ↦ core_before reach holes vs behind j ys closing (core_stands reach holes are false 12 behind j ys (omega arith) operand)
+        | inr operand ↦ core_before reach holes vs behind j ys closing (core_stands reach holes are false 12 behind j ys all_ranks_fit operand)
       ] in
       of_kind reach holes callable n at kind k.INDEX_EXPR (tree m xs (leaf a us (tree j ys (leaf b vs done)))) whole.0
       (index_filled reach holes callable n at a b m j us vs xs ys (leb-true 1 n front.0) (leaf_told holes (at + length (spell xs)) (k.L_BRACK ∷ []) a us brackets.0) closes
@@ -332,7 +335,7 @@ mutual
       let closing = fewer_kinds (k.R_PAREN ∷ []) closing_marks vs refl closes.token in
       let inside : StandsFilledBefore reach holes vs at m xs = elim (or_cases _ _ halves.0) [
         | inl held ↦ held_before reach holes vs at m xs are closing held
-        | inr operand ↦ core_before reach holes vs at m xs closing (core_stands reach holes are false 12 at m xs (omega arith) operand)
+        | inr operand ↦ core_before reach holes vs at m xs closing (core_stands reach holes are false 12 at m xs all_ranks_fit operand)
       ] in
       last_argument reach holes at m b xs vs closes inside
   arguments_filled reach holes are at (tree m xs (leaf b vs args)) is =
@@ -342,7 +345,7 @@ mutual
       let closing = fewer_kinds (k.COMMA ∷ []) closing_marks vs refl comma.token in
       let inside : StandsFilledBefore reach holes vs at m xs = elim (or_cases _ _ front.0) [
         | inl held ↦ held_before reach holes vs at m xs are closing held
-        | inr operand ↦ core_before reach holes vs at m xs closing (core_stands reach holes are false 12 at m xs (omega arith) operand)
+        | inr operand ↦ core_before reach holes vs at m xs closing (core_stands reach holes are false 12 at m xs all_ranks_fit operand)
       ] in
       further_argument reach holes at m b xs args vs comma inside (arguments_filled reach holes are ((at + length (spell xs)) + length vs) args halves.1)
   arguments_filled reach holes are at _ is = absurd (cc)

@@ -15,7 +15,7 @@ use Rattle.ssr_syntax_places.proofs.Closing.{keeps_braces, keeps_front, stops, A
 
 -- ** Tokens that are whole.
 
-whole_keeps : (ts : List Token) → are_whole ts ≡ true → keeps_braces ts ≡ true
+pub whole_keeps : (ts : List Token) → are_whole ts ≡ true → keeps_braces ts ≡ true
 whole_keeps [] h = refl
 whole_keeps (t ∷ ts) h =
     let halves = and_parts (nat_le (t.size - 1) (length ts) && not (has_brace (take (t.size - 1) ts))) (are_whole ts) h in

@@ -103,7 +103,7 @@ StandsFilledBefore reach holes closing at kind kids =
 
 -- ** Names that stand for something.
 
-single_filled : (holes : Holes) (at : ℕ) (hole : Hole) (us : List Token) → is_single us ≡ true → holes at ≡ Some hole → tokens_filled holes at us ≡ hole.tokens
+pub single_filled : (holes : Holes) (at : ℕ) (hole : Hole) (us : List Token) → is_single us ≡ true → holes at ≡ Some hole → tokens_filled holes at us ≡ hole.tokens
 single_filled holes at hole [] is e = absurd (cc)
 single_filled holes at hole (t ∷ u ∷ us) is e = absurd (cc)
 single_filled holes at hole (t ∷ []) is e = ap (λ o. token_filled o t ++ []) e ∙ append-nil hole.tokens

@@ -5,8 +5,23 @@ use Rattle.ssr_syntax_kinds.specs.declared.kinds.SyntaxKind.{SyntaxKind}
 use Rattle.ssr_syntax_kinds.specs.declared.kinds.SyntaxKind.TheVariants as k
 use Rattle.ssr_syntax_forms.specs.declared.tokens.Token.{Token}
 use Rattle.ssr_syntax_forms.specs.Forms.{END}
+use Rattle.ssr_syntax_types.specs.declared.goals.Goal.{Goal}
+use Rattle.ssr_syntax_types.specs.declared.goals.Goal.TheVariants.{File, Stmt, Arm, Item, UseTree, Items, Stmts}
 
--- what ends an expression between brackets: nothing, or one of these; no rule of an expression looks for them
+-- what is asked for on the way from an expression: no file, item, statement or arm but in braces
+abbrev pub is_within : Goal → Bool
+is_within = elim [
+  | File ↦ false
+  | Stmt ↦ false
+  | Arm ↦ false
+  | Item _ ↦ false
+  | UseTree ↦ false
+  | Items ↦ false
+  | Stmts ↦ false
+  | _ ↦ true
+]
+
+-- what ends an expression between brackets: nothing, or one of these; no rule on the way from an expression looks for them
 abbrev pub delimiters : List SyntaxKind
 delimiters = END ∷ k.R_PAREN ∷ k.R_BRACK ∷ k.COMMA ∷ k.SEMICOLON ∷ []
 

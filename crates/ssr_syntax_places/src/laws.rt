@@ -8,17 +8,17 @@ ghost use Rattle.ssr_syntax_forms.specs.Forms.{next};
 ghost use Rattle.ssr_syntax_forms.specs.Kinds.{mem};
 ghost use Rattle.ssr_syntax_forms.specs.Trees.{Forest, done, join, leaf, spell};
 ghost use Rattle.ssr_syntax_forms.specs.declared.tokens.Token.{Token};
-ghost use Rattle.ssr_syntax_types.specs.declared.goals.ExprPlace.{ExprPlace};
+ghost use Rattle.ssr_syntax_types.specs.declared.goals.Goal.{Goal};
 ghost use Rattle.ssr_syntax_types.specs.declared.goals.ExprPlace.TheVariants.{Anywhere};
-ghost use Rattle.ssr_syntax_types.specs.declared.goals.Goal.TheVariants.{Expr};
+ghost use Rattle.ssr_syntax_types.specs.declared.goals.Goal.TheVariants.{Expr, StmtList};
 ghost use Rattle.ssr_syntax_lex.specs.declared.tokens.RawToken.{RawToken};
 ghost use Rattle.ssr_syntax_rows.specs.Solid.{solid_tokens};
 ghost use Rattle.ssr_syntax_types.specs.Literals.{literals};
 ghost use Rattle.ssr_syntax_types.specs.Types.{ampersands};
 ghost use Rattle.ssr_syntax_exprs.specs.Expressions.{operators, prefix_operators, ranks};
 ghost use Rattle.ssr_syntax.specs.Grammar.{grammar_of};
-ghost use Rattle.ssr_syntax_places.specs.Core.{Holes, hole_of, IsFilling, AreFillings, core, filled, node_filled, tokens_filled};
-ghost use Rattle.ssr_syntax_places.specs.Delimited.{are_whole, delimiters};
+ghost use Rattle.ssr_syntax_places.specs.Core.{Hole, Holes, hole_of, are_spelled, is_single, IsFilling, AreFillings, core, filled, node_filled, tokens_filled};
+ghost use Rattle.ssr_syntax_places.specs.Delimited.{is_within, are_whole, delimiters};
 ghost use Rattle.std.specs.Str.{IsUtf8};
 ghost use Rattle.ssr_syntax_lex.specs.Seams.{is_seam, has_token_at};
 ghost use Rattle.ssr_syntax_lex.specs.Tokens.{tokens};
@@ -93,13 +93,17 @@ pub fn postfixes()
         → Stands reach 1 true (node k.FIELD_EXPR (with_name x dot number)) (us ++ (dot ++ number)) }
 {}
 
-/// An expression fits between brackets exactly if it fits alone: no rule on the way from it looks for a delimiter. So what
-/// fits alone stands before a bracket or a comma. What is asked of its tokens holds of those of a text.
+/// An expression, and whatever is asked for on the way from one, fits between brackets exactly if it fits alone: no rule
+/// looks for a delimiter. So what fits alone stands before a bracket or a comma. Statements in braces fit whatever follows.
+/// What is asked of the tokens holds of those of a text.
 pub fn delimited()
-    ensures alike { (reach : Reach) (place : ExprPlace) (z : Forest) (us a b : List Token) → IsTrue (are_whole us)
+    ensures alike { (reach : Reach) (asked : Goal) (z : Forest) (us a b : List Token) → IsTrue (is_within asked) → IsTrue (are_whole us)
         → IsTrue (mem (next a) delimiters) → IsTrue (mem (next b) delimiters)
-        → Fits (grammar_of reach) (grammar_of reach (Expr place)) done z us a
-        → Fits (grammar_of reach) (grammar_of reach (Expr place)) done z us b }
+        → Fits (grammar_of reach) (grammar_of reach asked) done z us a
+        → Fits (grammar_of reach) (grammar_of reach asked) done z us b }
+    ensures block { (reach : Reach) (z : Forest) (us a b : List Token) → IsTrue (are_whole us)
+        → Fits (grammar_of reach) (grammar_of reach StmtList) done z us a
+        → Fits (grammar_of reach) (grammar_of reach StmtList) done z us b }
     ensures alone { (reach : Reach) (z : Forest) (us closing : List Token) → IsTrue (are_whole us) → IsTrue (is_token closing_marks closing)
         → Fits (grammar_of reach) (grammar_of reach (Expr Anywhere)) done z us [] → StandsBefore reach closing z us }
     ensures whole { (raw : List RawToken) → IsTrue (are_whole (solid_tokens raw)) }
@@ -114,6 +118,16 @@ pub fn filled()
     ensures fits { (reach : Reach) (holes : Holes) → AreFillings reach holes
         → (kind : SyntaxKind) (kids : Forest) (rest : List Token) → IsTrue (core holes false 12 0 kind kids) → IsTrue (mem (next rest) delimiters)
         → Fits (grammar_of reach) (grammar_of reach (Expr Anywhere)) done (filled holes 0 (node kind kids)) (tokens_filled holes 0 (spell (node kind kids))) rest }
+{}
+
+/// The tokens of a filled template, one part of it behind another: a token that stands for itself stays, and one that stands
+/// for an expression gives way to its tokens.
+pub fn filled_tokens()
+    ensures append { (holes : Holes) (at : ℕ) (us vs : List Token)
+        → tokens_filled holes at (us ++ vs) ≡ tokens_filled holes at us ++ tokens_filled holes (at + length us) vs }
+    ensures spelled { (holes : Holes) (at : ℕ) (us : List Token) → IsTrue (are_spelled holes at us) → tokens_filled holes at us ≡ us }
+    ensures single { (holes : Holes) (at : ℕ) (hole : Hole) (us : List Token) → IsTrue (is_single us) → holes at ≡ Some hole
+        → tokens_filled holes at us ≡ hole.tokens }
 {}
 
 /// What stands may fill a template, and so may any expression that fits alone, though between brackets only.
