@@ -1,5 +1,5 @@
 -- What fits before some tokens fits before others, if no look on the way tells these from those.
-use Rattle.std.proofs.Common.{◌≡◌, Bool, true, false, ◌&&◌, ◌||◌, List, [], ◌∷◌, ◌++◌, inl, inr, refl, sym, ap, subst, ◌∙◌, append_assoc}
+use Rattle.std.proofs.Common.{◌≡◌, Bool, true, ◌&&◌, ◌||◌, List, ◌++◌, inl, inr, sym, ap, subst, ◌∙◌, append_assoc}
 use Rattle.std.proofs.lemmas.Bool.{and_parts, or_cases}
 use Rattle.ssr_syntax_forms.specs.declared.tokens.Token.{Token}
 use Rattle.ssr_syntax_forms.specs.Trees.{Forest, done}
@@ -47,11 +47,11 @@ ahead grammar ok near passed IsSeen a b sight (f then g) x z _ rest ts l e seen 
     elim (or_cases (passed (f then g)) (looks ok near passed f && looks ok near passed g) l) [
       | inl over ↦ sight.over (f then g) x z (us ++ vs) ts over seen (subst (λ w. Fits grammar (f then g) x z (us ++ vs) w) e (behind h k))
       | inr both ↦
-        let halves = and_parts (looks ok near passed f) (looks ok near passed g) both in
-        let all : IsSeen (us ++ (vs ++ ts)) = subst IsSeen (append_assoc us vs ts) seen in
-        let front = ahead grammar ok near passed IsSeen a b sight f x y us (vs ++ rest) (vs ++ ts) halves.0 (assoc_ahead vs ts a rest e) all h in
-        let last = ahead grammar ok near passed IsSeen a b sight g y z vs rest ts halves.1 e (sight.further us (vs ++ ts) all) k in
-        behind (subst (λ w. Fits grammar f x y us w) (append_assoc vs ts b) front) last
+          let halves = and_parts (looks ok near passed f) (looks ok near passed g) both in
+          let all : IsSeen (us ++ (vs ++ ts)) = subst IsSeen (append_assoc us vs ts) seen in
+          let front = ahead grammar ok near passed IsSeen a b sight f x y us (vs ++ rest) (vs ++ ts) halves.0 (assoc_ahead vs ts a rest e) all h in
+          let last = ahead grammar ok near passed IsSeen a b sight g y z vs rest ts halves.1 e (sight.further us (vs ++ ts) all) k in
+          behind (subst (λ w. Fits grammar f x y us w) (append_assoc vs ts b) front) last
     ]
 ahead grammar ok near passed IsSeen a b sight nothing x _ _ rest ts l e seen none = none
 ahead grammar ok near passed IsSeen a b sight (choose test f g) x z us rest ts l e seen (first h) =

@@ -1,15 +1,13 @@
 -- What fits alone stands before a bracket that closes or a comma, whatever follows.
-use Rattle.std.proofs.Common.{◌≡◌, ◌-◌, nat_eq, Bool, true, ◌&&◌, List, [], ◌∷◌, ◌++◌, length, refl}
+use Rattle.std.proofs.Common.{◌≡◌, ◌-◌, nat_eq, true, List, [], ◌∷◌, ◌++◌, length, refl}
 use Rattle.std.proofs.lemmas.Bool.{and_parts}
-use Rattle.ssr_syntax_kinds.specs.declared.kinds.SyntaxKind.{SyntaxKind}
-use Rattle.ssr_syntax_kinds.specs.declared.kinds.SyntaxKind.TheVariants as k
 use Rattle.ssr_syntax_kinds.specs.declared.reach.Reach.{Reach}
 use Rattle.ssr_syntax_forms.specs.declared.tokens.Token.{Token}
 use Rattle.ssr_syntax_forms.specs.Fitting.{Fits}
 use Rattle.ssr_syntax_forms.specs.Forms.{next}
 use Rattle.ssr_syntax_forms.specs.Kinds.{mem}
 use Rattle.ssr_syntax_forms.specs.Trees.{Forest, done}
-use Rattle.ssr_syntax_forms.proofs.Shared.{every, every_mem}
+use Rattle.ssr_syntax_forms.proofs.Shared.{every_mem}
 use Rattle.ssr_syntax_types.specs.declared.goals.Goal.TheVariants.{Expr}
 use Rattle.ssr_syntax_types.specs.declared.goals.ExprPlace.TheVariants.{Anywhere}
 use Rattle.ssr_syntax.specs.Grammar.{grammar_of}

@@ -1,5 +1,5 @@
 -- Expressions with commas between them fit a list of them.
-use Rattle.std.proofs.Common.{◌≡◌, ℕ, ◌-◌, nat_eq, Bool, true, false, not, ◌&&◌, if◌then◌else◌, List, [], ◌∷◌, ◌++◌, length, refl, sym, ap, subst, ◌∙◌, append_assoc}
+use Rattle.std.proofs.Common.{◌≡◌, ◌-◌, nat_eq, Bool, true, false, not, if◌then◌else◌, List, [], ◌∷◌, ◌++◌, length, refl, sym, ap, subst, ◌∙◌, append_assoc}
 use Rattle.std.proofs.lemmas.List.{append-nil}
 use Rattle.std.proofs.lemmas.Bool.{and_parts}
 use Rattle.ssr_syntax_kinds.specs.declared.kinds.SyntaxKind.{SyntaxKind}
@@ -9,7 +9,7 @@ use Rattle.ssr_syntax_kinds.specs.declared.reach.Reach.{Reach}
 use Rattle.ssr_syntax_forms.specs.declared.tokens.Token.{Token}
 use Rattle.ssr_syntax_forms.specs.Kinds.{mem, where_whole}
 use Rattle.ssr_syntax_forms.specs.Trees.{Forest, done, leaf, tree, join}
-use Rattle.ssr_syntax_forms.specs.Forms.{Form, passes, next, at, a, mark, child, seal, ◌then◌, choose, look, comma, comma_list, comma_list_by, many}
+use Rattle.ssr_syntax_forms.specs.Forms.{Form, next, at, a, child, seal, ◌then◌, look, comma, comma_list, comma_list_by, many}
 use Rattle.ssr_syntax_forms.proofs.Shared.{apart, at_next, meets}
 use Rattle.ssr_syntax_types.specs.declared.goals.Goal.{Goal}
 use Rattle.ssr_syntax_types.specs.declared.goals.Goal.TheVariants.{Expr}
@@ -21,7 +21,7 @@ use Rattle.ssr_syntax_exprs.specs.Atoms.{expr_first, operand_first, braceless_fi
 use Rattle.ssr_syntax_exprs.specs.Blocks.{block_words, stated_block_words}
 use Rattle.ssr_syntax_exprs.specs.Expressions.{arg_list}
 use Rattle.ssr_syntax.specs.Grammar.{grammar}
-use Rattle.ssr_syntax_places.specs.Standing.{node, is_token, token_leaf, StandsBefore, AreArguments, no_more, last, more, between, bracketed}
+use Rattle.ssr_syntax_places.specs.Standing.{node, is_token, token_leaf, AreArguments, no_more, last, more, between, bracketed}
 use Rattle.ssr_syntax_places.proofs.InReach.{FitsIn, token_in, child_in, seal_in, then_in, then_still, first_in, second_in, look_in, either_in, stop_in, turn_in}
 
 -- ** Forests side by side.

@@ -1,32 +1,23 @@
 -- Literals stand wherever an expression does.
-use Rattle.std.proofs.Common.{◌≡◌, ℕ, ◌-◌, nat_eq, Bool, true, false, not, ◌&&◌, ◌||◌, List, [], ◌∷◌, ◌++◌, length, drop, refl, sym, ap, subst, ◌∙◌, eqb-true}
-use Rattle.std.proofs.lemmas.List.{append-nil}
-use Rattle.std.proofs.lemmas.Bool.{and_from, and_left, and_parts, and_right, or_from, or_parts, not-true}
-use Rattle.ssr_syntax_kinds.specs.declared.kinds.SyntaxKind.{SyntaxKind}
+use Rattle.std.proofs.Common.{◌≡◌, Bool, true, false, List, refl}
 use Rattle.ssr_syntax_kinds.specs.declared.kinds.SyntaxKind.TheVariants as k
-use Rattle.ssr_syntax_kinds.specs.Kinds.{same_kind}
 use Rattle.ssr_syntax_kinds.specs.Reach.{is_whole}
 use Rattle.ssr_syntax_kinds.specs.declared.reach.Reach.{Reach}
-use Rattle.ssr_syntax_kinds.specs.declared.reach.Reach.TheVariants.{Stated, Whole}
 use Rattle.ssr_syntax_forms.specs.declared.tokens.Token.{Token}
-use Rattle.ssr_syntax_forms.specs.Kinds.{mem, where_whole}
-use Rattle.ssr_syntax_forms.specs.Trees.{Forest, done, leaf, tree, join}
-use Rattle.ssr_syntax_forms.specs.Forms.{Form, next, are_next, passes, any, at, mark, seal, ◌then◌, choose, look, child, nothing, decide, a, optional, as_long_as, many}
-use Rattle.ssr_syntax_types.specs.declared.goals.Goal.{Goal}
-use Rattle.ssr_syntax_types.specs.declared.goals.Goal.TheVariants.{GenericArgs}
-use Rattle.ssr_syntax_forms.proofs.Shared.{every, every_mem, at_next}
+use Rattle.ssr_syntax_forms.specs.Kinds.{where_whole}
+use Rattle.ssr_syntax_forms.specs.Trees.{done}
+use Rattle.ssr_syntax_forms.specs.Forms.{any, at, mark, seal}
+use Rattle.ssr_syntax_forms.proofs.Shared.{every}
 use Rattle.ssr_syntax_types.specs.declared.goals.ExprPlace.TheVariants.{Anywhere}
-use Rattle.ssr_syntax_types.specs.declared.goals.PathPlace.TheVariants.{InExpr}
 use Rattle.ssr_syntax_types.specs.Literals.{literal, literals}
-use Rattle.ssr_syntax_types.specs.Paths.{path_names, path_first, path_name, path, shortest_path, plain_path, first_segment, generics, expr_generics, colon_angle, longer_path, anchored_path, open_angle}
-use Rattle.ssr_syntax_exprs.specs.Atoms.{path_expr, macro_expr, path_or_record, record_expr, expr_in_parentheses, array_expr, continue_expr, operand_first, async_closure_ahead, braceless_first, operand_marks, stated_marks, leaving_first}
+use Rattle.ssr_syntax_types.specs.Paths.{path_first}
+use Rattle.ssr_syntax_exprs.specs.Atoms.{path_expr, operand_first, braceless_first, operand_marks, stated_marks, leaving_first}
 use Rattle.ssr_syntax_exprs.specs.Blocks.{block_words, stated_block_words}
-use Rattle.ssr_syntax_types.specs.Types.{pointer_words}
-use Rattle.ssr_syntax_exprs.specs.Expressions.{atom, block_or_mark, raw_ahead}
+use Rattle.ssr_syntax_exprs.specs.Expressions.{atom}
 use Rattle.ssr_syntax.specs.Grammar.{grammar}
-use Rattle.ssr_syntax_places.specs.Standing.{node, is_token, token_leaf, level, may_follow, begins_operand, Stands}
-use Rattle.ssr_syntax_places.proofs.InReach.{FitsIn, token_in, mark_in, seal_in, then_in, then_still, nothing_in, first_in, second_in, look_in, undecided_in, stop_in}
-use Rattle.ssr_syntax_places.proofs.Following.{begins_plainly, begins_alone, follows_called}
+use Rattle.ssr_syntax_places.specs.Standing.{node, is_token, token_leaf, level, Stands}
+use Rattle.ssr_syntax_places.proofs.InReach.{FitsIn, token_in, mark_in, seal_in, then_still, first_in, second_in}
+use Rattle.ssr_syntax_places.proofs.Following.{begins_plainly, begins_alone}
 
 -- ** Literals.
 

@@ -1,23 +1,22 @@
 -- What stands where an expression must bind tightly stands where it may bind loosely.
-use Rattle.std.proofs.Common.{◌≡◌, ℕ, zero, suc, ◌+◌, ◌-◌, ◌≤◌, Bool, true, false, ◌&&◌, List, [], ◌∷◌, ◌++◌, refl, sym, ap, subst, ◌∙◌, arith}
-use Rattle.std.proofs.lemmas.List.{append-nil}
+use Rattle.std.proofs.Common.{◌≡◌, ℕ, zero, suc, ◌+◌, ◌-◌, ◌≤◌, Bool, true, false, List, [], ◌∷◌, ◌++◌, subst, arith}
 use Rattle.ssr_syntax_kinds.specs.declared.kinds.SyntaxKind.{SyntaxKind}
 use Rattle.ssr_syntax_kinds.specs.declared.kinds.SyntaxKind.TheVariants as k
 use Rattle.ssr_syntax_kinds.specs.Reach.{is_whole}
 use Rattle.ssr_syntax_kinds.specs.declared.reach.Reach.{Reach}
 use Rattle.ssr_syntax_forms.specs.declared.tokens.Token.{Token}
 use Rattle.ssr_syntax_forms.specs.Trees.{Forest, done}
-use Rattle.ssr_syntax_forms.specs.Forms.{Form, at, mark, ◌then◌, choose, nothing, optional, also, also_decide}
+use Rattle.ssr_syntax_forms.specs.Forms.{Form, at, mark, ◌then◌, nothing, optional, also_decide}
 use Rattle.ssr_syntax_forms.proofs.Shared.{every}
 use Rattle.ssr_syntax_types.specs.declared.goals.Goal.{Goal}
 use Rattle.ssr_syntax_types.specs.declared.goals.ExprPlace.TheVariants.{Anywhere}
 use Rattle.ssr_syntax_types.specs.Types.{ampersands}
 use Rattle.ssr_syntax_types.specs.PatternSets.{ranges}
 use Rattle.ssr_syntax_exprs.specs.Atoms.{async_closure_ahead, leaving_expr, leaving_first}
-use Rattle.ssr_syntax_exprs.specs.Expressions.{prefix_operators, postfix_first, atom, postfix, postfixes, postfix_expr, ref_expr, prefix_expr, attr_expr, leaving_operand, async_operand, leaving_or_postfix, attributed_or_postfix, unary, cast_expr, casts, operators, operation, operations, climb, operand, all_ranks, ranks, assignments, range, range_or_assignment, assignment, leading_range, ranked, leaving_or_ranked, expr}
+use Rattle.ssr_syntax_exprs.specs.Expressions.{prefix_operators, postfix_first, atom, postfix, postfixes, postfix_expr, ref_expr, prefix_expr, attr_expr, leaving_operand, async_operand, leaving_or_postfix, attributed_or_postfix, unary, cast_expr, casts, operators, operation, operations, climb, operand, all_ranks, assignments, range, range_or_assignment, assignment, leading_range, ranked, leaving_or_ranked, expr}
 use Rattle.ssr_syntax.specs.Grammar.{grammar}
-use Rattle.ssr_syntax_places.specs.Standing.{is_token, level, may_follow, begins_operand, Stands, StandsAnywhere, StandsBefore}
-use Rattle.ssr_syntax_places.proofs.InReach.{FitsIn, then_still, first_in, second_in, nothing_in, either_in, also_in, also_decide_in, stop_in, no_turn_more_in}
+use Rattle.ssr_syntax_places.specs.Standing.{is_token, level, begins_operand, Stands, StandsAnywhere, StandsBefore}
+use Rattle.ssr_syntax_places.proofs.InReach.{FitsIn, then_still, second_in, nothing_in, either_in, also_in, also_decide_in, stop_in, no_turn_more_in}
 use Rattle.ssr_syntax_places.proofs.Following.{follows_any, no_closure, token_alone_follows, goes_behind}
 
 -- ** From one form of expressions to the next.

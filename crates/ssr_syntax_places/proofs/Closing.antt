@@ -1,7 +1,7 @@
 -- What ends with a closing brace fits whatever stands behind it: no look sees past a brace.
-use Rattle.std.proofs.Common.{◌≡◌, ℕ, zero, suc, ◌-◌, ◌≤◌, Bool, true, false, not, ◌&&◌, ◌||◌, List, [], ◌∷◌, ◌++◌, length, take, drop, inl, inr, refl, sym, ap, subst, ◌∙◌, arith, append_assoc}
+use Rattle.std.proofs.Common.{◌≡◌, ℕ, zero, suc, ◌-◌, ◌≤◌, Bool, true, false, not, ◌&&◌, ◌||◌, List, [], ◌∷◌, ◌++◌, length, take, drop, inl, inr, refl, sym, ap, ◌∙◌, arith, append_assoc}
 use Rattle.std.proofs.lemmas.List.{append-nil, drop-append-le}
-use Rattle.std.proofs.lemmas.Bool.{and_from, and_left, and_parts, cases_Bool, not-true, or_cases, or_from, or_left, or_right, or_parts}
+use Rattle.std.proofs.lemmas.Bool.{and_from, and_left, and_parts, not-true, or_cases, or_from, or_left, or_right, or_parts}
 use Rattle.ssr_syntax_kinds.specs.declared.kinds.SyntaxKind.{SyntaxKind}
 use Rattle.ssr_syntax_kinds.specs.declared.kinds.SyntaxKind.TheVariants as k
 use Rattle.ssr_syntax_kinds.specs.Kinds.{same_kind}
@@ -9,8 +9,8 @@ use Rattle.ssr_syntax_kinds.proofs.Shared.{same_kind-equal}
 use Rattle.ssr_syntax_forms.specs.declared.tokens.Token.{Token}
 use Rattle.ssr_syntax_forms.specs.Kinds.{mem}
 use Rattle.ssr_syntax_forms.specs.Trees.{Forest}
-use Rattle.ssr_syntax_forms.specs.Forms.{Form, Test, one, child, mark, seal, ◌then◌, nothing, choose, many, look, check, wide, Productions, are_next, passes, is_one}
-use Rattle.ssr_syntax_forms.specs.Fitting.{Fits, token, goal, marked, sealed, behind, none, first, second, stop, turn, looked, checked, stated}
+use Rattle.ssr_syntax_forms.specs.Forms.{Form, Test, one, seal, ◌then◌, nothing, check, Productions, are_next, passes, is_one}
+use Rattle.ssr_syntax_forms.specs.Fitting.{Fits, token, sealed, behind, none, checked}
 use Rattle.ssr_syntax_forms.proofs.Shared.{every, every_mem}
 use Rattle.ssr_syntax_places.specs.Delimited.{has_brace}
 use Rattle.ssr_syntax_places.proofs.Ahead.{looks, SameSight, ahead}
@@ -98,11 +98,11 @@ string_agrees (ks ∷ ls ∷ string) (t ∷ ts) a b stops keeps has =
       | inl is ↦ at_brace ks t (are_next (ls ∷ string) (drop (t.size - 1) (ts ++ a))) (are_next (ls ∷ string) (drop (t.size - 1) (ts ++ b)))
           (not-true (mem k.R_CURLY ks) s.0) is
       | inr later ↦
-        let left = behind_taken (t.size - 1) ts (not-true (has_brace (take (t.size - 1) ts)) c.0) later in
-        let same = string_agrees (ls ∷ string) (drop (t.size - 1) ts) a b s.1 (keeps_dropped (t.size - 1) ts c.1) left.1 in
-        ap (λ w. mem t.joined ks && are_next (ls ∷ string) w) (drop-append-le (t.size - 1) ts a left.0)
-        ∙ ap (λ w. mem t.joined ks && w) same
-        ∙ sym (ap (λ w. mem t.joined ks && are_next (ls ∷ string) w) (drop-append-le (t.size - 1) ts b left.0))
+          let left = behind_taken (t.size - 1) ts (not-true (has_brace (take (t.size - 1) ts)) c.0) later in
+          let same = string_agrees (ls ∷ string) (drop (t.size - 1) ts) a b s.1 (keeps_dropped (t.size - 1) ts c.1) left.1 in
+          ap (λ w. mem t.joined ks && are_next (ls ∷ string) w) (drop-append-le (t.size - 1) ts a left.0)
+          ∙ ap (λ w. mem t.joined ks && w) same
+          ∙ sym (ap (λ w. mem t.joined ks && are_next (ls ∷ string) w) (drop-append-le (t.size - 1) ts b left.0))
     ]
 
 test_agrees : (test : Test) (ts a b : List Token) → test_stops test ≡ true → keeps_braces ts ≡ true → has_brace ts ≡ true
@@ -188,10 +188,10 @@ closing grammar all (f then g) x z _ rest b closed halts keeps (behind {y = y} {
     let halves = and_parts (stops f) (stops g) halts in
     elim (or_cases (closes g) (closes f && is_still g) closed) [
       | inl last ↦ behind
-        (before_brace grammar all f x y us vs rest b halves.0 keeps (closed_has_brace grammar g y z vs rest last t) h)
-        (closing grammar all g y z vs rest b last halves.1 (keeps_behind us vs keeps) t)
+          (before_brace grammar all f x y us vs rest b halves.0 keeps (closed_has_brace grammar g y z vs rest last t) h)
+          (closing grammar all g y z vs rest b last halves.1 (keeps_behind us vs keeps) t)
       | inr front ↦
-        let ends = and_parts (closes f) (is_still g) front in
-        behind (closing grammar all f x y us (vs ++ rest) (vs ++ b) ends.0 halves.0 (keeps_front us vs keeps) h) (still_anywhere grammar g y z vs rest b ends.1 t)
+          let ends = and_parts (closes f) (is_still g) front in
+          behind (closing grammar all f x y us (vs ++ rest) (vs ++ b) ends.0 halves.0 (keeps_front us vs keeps) h) (still_anywhere grammar g y z vs rest b ends.1 t)
     ]
 closing grammar all _ x z us rest b closed halts keeps f = absurd (cc)

@@ -1,7 +1,7 @@
 -- Each core expression, filled, stands if its filled operands do.
-use Rattle.std.proofs.Common.{◌≡◌, ℕ, zero, suc, ◌+◌, ◌-◌, ◌<◌, ◌≤◌, nat_le, Bool, true, false, not, ◌&&◌, ◌||◌, List, [], ◌∷◌, ◌++◌, length, Some, None, refl, sym, ap, subst, ◌∙◌, arith, append_assoc}
+use Rattle.std.proofs.Common.{◌≡◌, ℕ, ◌+◌, ◌<◌, ◌≤◌, Bool, true, false, ◌&&◌, List, [], ◌∷◌, ◌++◌, length, None, sym, ap, subst, ◌∙◌, arith}
 use Rattle.std.proofs.lemmas.List.{append-nil}
-use Rattle.std.proofs.lemmas.Bool.{and_from, and_parts}
+use Rattle.std.proofs.lemmas.Bool.{and_parts}
 use Rattle.ssr_syntax_kinds.specs.declared.kinds.SyntaxKind.{SyntaxKind}
 use Rattle.ssr_syntax_kinds.specs.declared.kinds.SyntaxKind.TheVariants as k
 use Rattle.ssr_syntax_kinds.specs.Kinds.{same_kind}
@@ -14,7 +14,7 @@ use Rattle.ssr_syntax_types.specs.Literals.{literals}
 use Rattle.ssr_syntax_types.specs.Paths.{path_names}
 use Rattle.ssr_syntax_types.specs.Types.{ampersands}
 use Rattle.ssr_syntax_exprs.specs.Expressions.{operators, prefix_operators, ranks}
-use Rattle.ssr_syntax_places.specs.Standing.{node, is_token, token_leaf, segment, IsPath, one, longer, between, bracketed, with_name, Stands, StandsBefore, AreArguments}
+use Rattle.ssr_syntax_places.specs.Standing.{node, is_token, token_leaf, segment, IsPath, one, longer, between, bracketed, with_name, Stands, AreArguments}
 use Rattle.ssr_syntax_places.specs.Core.{Holes, tokens_filled, path_filled, filled, node_filled, is_leaf, is_segment, is_path}
 use Rattle.ssr_syntax_places.proofs.Arguments.{join-done, join_assoc}
 use Rattle.ssr_syntax_places.proofs.Atoms.{literal_stands}
@@ -22,7 +22,7 @@ use Rattle.ssr_syntax_places.proofs.Paths.{path_stands}
 use Rattle.ssr_syntax_places.proofs.Climbing.{stands_looser}
 use Rattle.ssr_syntax_places.proofs.Operators.{prefix_stands, reference_stands, mut_reference_stands, binary_stands}
 use Rattle.ssr_syntax_places.proofs.Parentheses.{paren_stands}
-use Rattle.ssr_syntax_places.proofs.Postfixes.{try_stands, index_stands, call_stands, method_call_stands, field_stands, number_stands}
+use Rattle.ssr_syntax_places.proofs.Postfixes.{try_stands, index_stands, call_stands, method_call_stands, number_stands}
 use Rattle.ssr_syntax_places.proofs.Filling.{IsLeaf, leaf_told, StandsFilled, StandsFilledBefore, as_same, stands_as, leaf_in_front, last_tokens, tokens_front, tokens_behind, tokens_end}
 
 -- ** Atoms.

@@ -1,5 +1,5 @@
 -- A core template, filled with what binds tightly enough, stands.
-use Rattle.std.proofs.Common.{◌≡◌, ℕ, zero, suc, ◌+◌, ◌-◌, ◌<◌, ◌≤◌, nat_eq, nat_le, nat_lt, Bool, true, false, not, ◌&&◌, ◌||◌, if◌then◌else◌, List, [], ◌∷◌, ◌++◌, length, Some, None, ◌⊎◌, inl, inr, refl, sym, ap, subst, ◌∙◌, arith, append_assoc}
+use Rattle.std.proofs.Common.{◌≡◌, ℕ, ◌+◌, ◌-◌, ◌<◌, ◌≤◌, nat_eq, nat_le, nat_lt, Bool, true, false, not, ◌&&◌, ◌||◌, if◌then◌else◌, List, [], ◌∷◌, ◌++◌, length, Some, None, ◌⊎◌, inl, inr, refl, sym, ap, subst, ◌∙◌, arith, append_assoc}
 use Rattle.std.specs.Prelude.{Option}
 use Rattle.std.proofs.lemmas.List.{append-nil}
 use Rattle.std.proofs.lemmas.Bool.{and_from, and_parts, leb-true, ltb-true, or_cases}
@@ -16,8 +16,8 @@ use Rattle.ssr_syntax_types.specs.Literals.{literals}
 use Rattle.ssr_syntax_types.specs.Types.{ampersands}
 use Rattle.ssr_syntax_exprs.specs.Expressions.{operators, prefix_operators, ranks}
 use Rattle.ssr_syntax.specs.Operands.{row_in}
-use Rattle.ssr_syntax_places.specs.Standing.{node, is_token, token_leaf, closing_marks, with_name, Stands, StandsBefore, AreArguments, no_more, last, more}
-use Rattle.ssr_syntax_places.specs.Core.{Hole, Holes, AreFillings, tokens_filled, filled, node_filled, are_spelled, is_leaf, is_ampersand, is_single, is_held, binds_enough, is_path, is_name_ref, member_names, core, arguments}
+use Rattle.ssr_syntax_places.specs.Standing.{node, is_token, token_leaf, closing_marks, with_name, Stands, no_more, last, more}
+use Rattle.ssr_syntax_places.specs.Core.{Hole, Holes, AreFillings, tokens_filled, filled, node_filled, are_spelled, is_leaf, is_ampersand, is_single, binds_enough, is_path, is_name_ref, member_names, core, arguments}
 use Rattle.ssr_syntax_places.proofs.Arguments.{join_assoc}
 use Rattle.ssr_syntax_places.proofs.Climbing.{stands_anywhere, stands_before}
 use Rattle.ssr_syntax_places.proofs.Postfixes.{field_stands}
@@ -104,13 +104,13 @@ prefix_or_reference : (reach : Reach) (holes : Holes) (callable : Bool) (n at : 
 prefix_or_reference reach holes callable n at kind a m us xs le is operand =
     elim (or_cases (same_kind kind k.PREFIX_EXPR && is_leaf holes at prefix_operators a us) (same_kind kind k.REF_EXPR && is_ampersand holes at a us) is) [
       | inl prefix ↦
-        let halves = and_parts (same_kind kind k.PREFIX_EXPR) (is_leaf holes at prefix_operators a us) prefix in
-        of_kind reach holes callable n at kind k.PREFIX_EXPR (leaf a us (tree m xs done)) halves.0
-        (prefix_filled reach holes callable n at a m us xs le (leaf_told holes at prefix_operators a us halves.1) operand)
+          let halves = and_parts (same_kind kind k.PREFIX_EXPR) (is_leaf holes at prefix_operators a us) prefix in
+          of_kind reach holes callable n at kind k.PREFIX_EXPR (leaf a us (tree m xs done)) halves.0
+          (prefix_filled reach holes callable n at a m us xs le (leaf_told holes at prefix_operators a us halves.1) operand)
       | inr reference ↦
-        let halves = and_parts (same_kind kind k.REF_EXPR) (is_ampersand holes at a us) reference in
-        of_kind reach holes callable n at kind k.REF_EXPR (leaf a us (tree m xs done)) halves.0
-        (referenced reach holes callable n at a m us xs le halves.1 operand)
+          let halves = and_parts (same_kind kind k.REF_EXPR) (is_ampersand holes at a us) reference in
+          of_kind reach holes callable n at kind k.REF_EXPR (leaf a us (tree m xs done)) halves.0
+          (referenced reach holes callable n at a m us xs le halves.1 operand)
     ]
 
 -- ** Fields.
@@ -261,26 +261,26 @@ mutual
       let behind : ℕ = at + length (spell xs) in
       elim (chosen (same_kind kind k.BIN_EXPR) (is_binary holes callable n at m xs a us j ys) (is_field holes callable n at kind m xs a us j ys) is) [
         | inl binary ↦
-          let halves = and_parts _ _ binary.1 in
-          let front = and_parts _ _ halves.0 in
-          let bounds = and_parts _ _ front.0 in
-          let operands = and_parts _ _ halves.1 in
-          let r : ℕ = row_in ranks a in
-          let low : r < 9 = ltb-true r (length ranks) bounds.0 in
-          of_kind reach holes callable n at kind k.BIN_EXPR (tree m xs (leaf a us (tree j ys done))) binary.0
-          (binary_filled reach holes callable n at r a m j us xs ys low (leb-true (4 + r) n bounds.1) (leaf_told holes behind (operators r) a us front.1)
-          (core_stands reach holes are false (4 + r) at m xs (omega (arith, low)) operands.0)
-          (core_stands reach holes are callable (3 + r) (behind + length us) j ys (omega (arith, low)) operands.1))
+            let halves = and_parts _ _ binary.1 in
+            let front = and_parts _ _ halves.0 in
+            let bounds = and_parts _ _ front.0 in
+            let operands = and_parts _ _ halves.1 in
+            let r : ℕ = row_in ranks a in
+            let low : r < 9 = ltb-true r (length ranks) bounds.0 in
+            of_kind reach holes callable n at kind k.BIN_EXPR (tree m xs (leaf a us (tree j ys done))) binary.0
+            (binary_filled reach holes callable n at r a m j us xs ys low (leb-true (4 + r) n bounds.1) (leaf_told holes behind (operators r) a us front.1)
+            (core_stands reach holes are false (4 + r) at m xs (omega (arith, low)) operands.0)
+            (core_stands reach holes are callable (3 + r) (behind + length us) j ys (omega (arith, low)) operands.1))
         | inr field ↦
-          let halves = and_parts _ _ field in
-          let front = and_parts _ _ halves.0 in
-          let whole = and_parts _ _ halves.1 in
-          let member = and_parts _ _ whole.1 in
-          let dot = leaf_told holes behind (k.DOT ∷ []) a us member.0 in
-          of_kind reach holes callable n at kind k.FIELD_EXPR (tree m xs (leaf a us (tree j ys done))) whole.0
-          (field_filled reach holes callable n at (member_names callable) a m j us xs ys (leb-true 1 n front.0) dot
-          (name_ref_told holes (behind + length us) (member_names callable) j ys member.1) (member_stands reach callable us dot.token)
-          (core_stands reach holes are false 1 at m xs (omega arith) front.1))
+            let halves = and_parts _ _ field in
+            let front = and_parts _ _ halves.0 in
+            let whole = and_parts _ _ halves.1 in
+            let member = and_parts _ _ whole.1 in
+            let dot = leaf_told holes behind (k.DOT ∷ []) a us member.0 in
+            of_kind reach holes callable n at kind k.FIELD_EXPR (tree m xs (leaf a us (tree j ys done))) whole.0
+            (field_filled reach holes callable n at (member_names callable) a m j us xs ys (leb-true 1 n front.0) dot
+            (name_ref_told holes (behind + length us) (member_names callable) j ys member.1) (member_stands reach callable us dot.token)
+            (core_stands reach holes are false 1 at m xs (omega arith) front.1))
       ]
   core_stands reach holes are callable n at kind (tree m xs (leaf a us (tree j ys (leaf b vs done)))) few is =
       let behind : ℕ = (at + length (spell xs)) + length us in

@@ -1,19 +1,16 @@
 -- The check of the whole grammar: no look of any goal sees past a brace that closes, and on the way from an expression none
 -- asks for a delimiter.
-use Rattle.std.proofs.Common.{◌≡◌, zero, suc, Bool, true, false, not, ◌&&◌, ◌||◌, List, [], ◌∷◌, refl, sym, ap, ◌∙◌}
+use Rattle.std.proofs.Common.{◌≡◌, zero, suc, Bool, true, not, ◌&&◌, ◌||◌, List, refl, sym, ap, ◌∙◌}
 use Rattle.std.proofs.lemmas.Bool.{and_parts}
-use Rattle.ssr_syntax_kinds.specs.declared.kinds.SyntaxKind.{SyntaxKind}
 use Rattle.ssr_syntax_kinds.specs.declared.reach.Reach.{Reach}
 use Rattle.ssr_syntax_kinds.specs.declared.reach.Reach.TheVariants.{Stated, Whole}
-use Rattle.ssr_syntax_kinds.specs.Reach.{is_whole}
 use Rattle.ssr_syntax_types.specs.declared.goals.Goal.{Goal}
-use Rattle.ssr_syntax_types.specs.declared.goals.Goal.TheVariants.{File, Expr, Condition, Operand, Unary, Ty, PathType, GenericArgs, ForBinder, TokenTree, Pat, StmtList, Stmt, Arm, If, Item, UseTree, Items, Stmts}
-use Rattle.ssr_syntax_types.specs.declared.goals.ExprPlace.{ExprPlace}
+use Rattle.ssr_syntax_types.specs.declared.goals.Goal.TheVariants.{Expr, Condition, Operand, Unary, Pat, StmtList, Item}
 use Rattle.ssr_syntax_types.specs.declared.goals.ExprPlace.TheVariants.{Anywhere, BeforeBlock}
 use Rattle.ssr_syntax_types.specs.declared.goals.PatPlace.TheVariants.{TopLevel, NoBar, BehindAmp}
 use Rattle.ssr_syntax_types.specs.declared.goals.ItemPlace.TheVariants.{InModule, AsStmt, InImpl, InTrait, InExtern}
 use Rattle.ssr_syntax_forms.specs.Kinds.{mem, where_whole}
-use Rattle.ssr_syntax_forms.specs.Forms.{Form, END, comma_list, as_long_as, also, also_decide, settle, choose_by, look_by, repeated_by, as_long_as_by, comma_by, comma_list_by}
+use Rattle.ssr_syntax_forms.specs.Forms.{Form, comma_list, as_long_as, also, also_decide, settle, choose_by, look_by, repeated_by, as_long_as_by, comma_by, comma_list_by}
 use Rattle.ssr_syntax_types.specs.Literals as lits
 use Rattle.ssr_syntax_types.specs.Paths as path
 use Rattle.ssr_syntax_types.specs.Paths.{path_first, type_first, open_angle}

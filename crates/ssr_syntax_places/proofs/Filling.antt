@@ -1,21 +1,19 @@
 -- Templates filled, piece by piece.
-use Rattle.std.proofs.Common.{◌≡◌, ℕ, zero, suc, ◌+◌, ◌-◌, ◌≤◌, nat_eq, nat_le, Bool, true, false, not, ◌&&◌, ◌||◌, if◌then◌else◌, List, [], ◌∷◌, ◌++◌, length, Some, None, inl, inr, refl, sym, ap, subst, ◌∙◌, arith, append_assoc}
+use Rattle.std.proofs.Common.{◌≡◌, ℕ, ◌+◌, ◌≤◌, nat_le, Bool, true, false, not, ◌&&◌, ◌||◌, List, [], ◌∷◌, ◌++◌, length, Some, None, refl, sym, ap, subst, ◌∙◌, arith, append_assoc}
 use Rattle.std.specs.Prelude.{Option}
 use Rattle.std.proofs.lemmas.List.{append-nil}
-use Rattle.std.proofs.lemmas.Bool.{and_parts, leb-true, or_cases}
+use Rattle.std.proofs.lemmas.Bool.{and_parts, leb-true}
 use Rattle.ssr_syntax_kinds.specs.declared.kinds.SyntaxKind.{SyntaxKind}
 use Rattle.ssr_syntax_kinds.specs.declared.kinds.SyntaxKind.TheVariants as k
 use Rattle.ssr_syntax_kinds.specs.Kinds.{same_kind}
 use Rattle.ssr_syntax_kinds.proofs.Shared.{same_kind-equal}
 use Rattle.ssr_syntax_kinds.specs.declared.reach.Reach.{Reach}
 use Rattle.ssr_syntax_forms.specs.declared.tokens.Token.{Token}
-use Rattle.ssr_syntax_forms.specs.Kinds.{mem}
 use Rattle.ssr_syntax_forms.specs.Forms.{next}
-use Rattle.ssr_syntax_forms.specs.Trees.{Forest, done, leaf, tree, join, spell}
-use Rattle.ssr_syntax_places.specs.Standing.{node, is_token, token_leaf, closing_marks, Stands, StandsBefore}
+use Rattle.ssr_syntax_forms.specs.Trees.{Forest, done, leaf, join, spell}
+use Rattle.ssr_syntax_places.specs.Standing.{is_token, token_leaf, closing_marks, Stands, StandsBefore}
 use Rattle.ssr_syntax_places.specs.Core.{Hole, Holes, IsFilling, AreFillings, token_filled, tokens_filled, path_filled, node_filled, is_no_hole, are_spelled, is_leaf, is_single, is_held}
-use Rattle.ssr_syntax_places.proofs.Arguments.{join-done, join_assoc}
-use Rattle.ssr_syntax_places.proofs.Climbing.{stands_looser, stands_uncalled, stands_anywhere}
+use Rattle.ssr_syntax_places.proofs.Climbing.{stands_looser, stands_uncalled}
 
 -- ** Tokens.
 

@@ -1,5 +1,5 @@
 -- What may fill a template, and what a filled template is as a whole.
-use Rattle.std.proofs.Common.{◌≡◌, ℕ, ◌+◌, ◌<◌, ◌≤◌, Bool, true, false, List, [], ◌∷◌, ◌++◌, length, refl, sym, ap, subst, ◌∙◌, arith}
+use Rattle.std.proofs.Common.{◌≡◌, ℕ, ◌≤◌, Bool, true, false, List, [], refl, sym, subst, arith}
 use Rattle.std.proofs.lemmas.List.{append-nil}
 use Rattle.ssr_syntax_kinds.specs.declared.kinds.SyntaxKind.{SyntaxKind}
 use Rattle.ssr_syntax_kinds.specs.declared.reach.Reach.{Reach}
@@ -7,7 +7,7 @@ use Rattle.ssr_syntax_forms.specs.declared.tokens.Token.{Token}
 use Rattle.ssr_syntax_forms.specs.Fitting.{Fits}
 use Rattle.ssr_syntax_forms.specs.Forms.{next}
 use Rattle.ssr_syntax_forms.specs.Kinds.{mem}
-use Rattle.ssr_syntax_forms.specs.Trees.{Forest, done, join, spell}
+use Rattle.ssr_syntax_forms.specs.Trees.{Forest, done, spell}
 use Rattle.ssr_syntax_forms.proofs.Shared.{every_mem}
 use Rattle.ssr_syntax_types.specs.declared.goals.Goal.TheVariants.{Expr}
 use Rattle.ssr_syntax_types.specs.declared.goals.ExprPlace.TheVariants.{Anywhere}

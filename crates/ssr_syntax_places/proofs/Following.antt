@@ -1,5 +1,5 @@
 -- What may follow an expression, and what an operand begins with, told by one token.
-use Rattle.std.proofs.Common.{◌≡◌, ℕ, ◌-◌, nat_eq, Bool, true, false, not, ◌&&◌, ◌||◌, List, [], ◌∷◌, ◌++◌, length, refl, sym, ap, subst, ◌∙◌, eqb-true, append_assoc}
+use Rattle.std.proofs.Common.{◌≡◌, ℕ, ◌-◌, nat_eq, Bool, true, false, not, ◌&&◌, ◌||◌, List, [], ◌∷◌, ◌++◌, length, refl, sym, subst, append_assoc}
 use Rattle.std.proofs.lemmas.Bool.{and_parts, and_from, not-true}
 use Rattle.ssr_syntax_kinds.specs.declared.kinds.SyntaxKind.{SyntaxKind}
 use Rattle.ssr_syntax_kinds.specs.declared.kinds.SyntaxKind.TheVariants as k
@@ -9,11 +9,9 @@ use Rattle.ssr_syntax_kinds.specs.declared.reach.Reach.{Reach}
 use Rattle.ssr_syntax_forms.specs.declared.tokens.Token.{Token}
 use Rattle.ssr_syntax_forms.specs.Kinds.{mem}
 use Rattle.ssr_syntax_forms.specs.Trees.{Forest}
-use Rattle.ssr_syntax_forms.specs.Forms.{next, passes, are_next, at, more}
-use Rattle.ssr_syntax_forms.proofs.Shared.{every, every_mem, at_next}
-use Rattle.ssr_syntax_types.specs.Paths.{colon_angle, open_angle}
-use Rattle.ssr_syntax_types.specs.Types.{pointer_words}
-use Rattle.ssr_syntax_exprs.specs.Atoms.{async_closure_ahead, bars, operand_first}
+use Rattle.ssr_syntax_forms.specs.Forms.{next, passes}
+use Rattle.ssr_syntax_forms.proofs.Shared.{every, every_mem}
+use Rattle.ssr_syntax_exprs.specs.Atoms.{async_closure_ahead, operand_first}
 use Rattle.ssr_syntax_exprs.specs.Expressions.{raw_ahead}
 use Rattle.ssr_syntax_places.specs.Standing.{is_token, may_follow, begins_operand, Stands}
 

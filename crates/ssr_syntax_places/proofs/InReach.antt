@@ -1,12 +1,12 @@
 -- What fits a form of the grammar in a reach, step by step, whichever the reach is.
-use Rattle.std.proofs.Common.{◌≡◌, ℕ, ◌-◌, nat_eq, Bool, true, false, not, ◌&&◌, if◌then◌else◌, List, [], ◌∷◌, ◌++◌, length, refl, sym, ap, subst, ◌∙◌, eqb-true, append_assoc}
+use Rattle.std.proofs.Common.{◌≡◌, ◌-◌, nat_eq, Bool, true, false, not, ◌&&◌, if◌then◌else◌, List, [], ◌∷◌, ◌++◌, length, refl, sym, ap, subst, ◌∙◌, eqb-true, append_assoc}
 use Rattle.std.proofs.lemmas.List.{append-nil}
 use Rattle.std.proofs.lemmas.Bool.{and_parts}
 use Rattle.ssr_syntax_kinds.specs.declared.kinds.SyntaxKind.{SyntaxKind}
 use Rattle.ssr_syntax_forms.specs.declared.tokens.Token.{Token}
 use Rattle.ssr_syntax_forms.specs.Kinds.{mem}
 use Rattle.ssr_syntax_forms.specs.Trees.{Forest, done, leaf, tree, join}
-use Rattle.ssr_syntax_forms.specs.Forms.{Form, Test, one, child, mark, seal, ◌then◌, nothing, choose, many, look, wide, any, part, at, decide, also, also_decide, Productions, in_reach, of_reach, widened, agrees, passes}
+use Rattle.ssr_syntax_forms.specs.Forms.{Form, Test, child, mark, seal, ◌then◌, nothing, choose, many, look, wide, any, part, at, decide, also, also_decide, Productions, in_reach, of_reach, widened, agrees, passes}
 use Rattle.ssr_syntax_forms.specs.Fitting.{Fits, token, goal, marked, sealed, behind, none, first, second, stop, turn, looked, stated}
 use Rattle.ssr_syntax_places.specs.Standing.{is_token, token_leaf}
 

@@ -1,12 +1,12 @@
 -- What stands between two brackets, commas or `;` is lexed by itself, and anything else that lexes may stand there.
-use Rattle.std.proofs.Common.{◌≡◌, ℕ, ◌+◌, ◌==◌, Bool, true, false, ◌||◌, List, [], ◌∷◌, ◌++◌, length, Some, inl, inr, refl, sym, ap, subst, ◌∙◌, arith, append_assoc, eqb-true}
+use Rattle.std.proofs.Common.{◌≡◌, ℕ, ◌+◌, ◌==◌, true, List, [], ◌∷◌, ◌++◌, length, Some, inl, inr, refl, sym, ap, subst, ◌∙◌, append_assoc, eqb-true}
 use Rattle.std.specs.Prelude.{codes}
 use Rattle.std.specs.Str.{IsUtf8}
 use Rattle.std.proofs.lemmas.Bool.{or_cases, or_left, or_right}
 use Rattle.std.proofs.lemmas.List.{length-append}
 use Rattle.std.proofs.lemmas.Str.{IsUtf8-append}
 use Rattle.ssr_syntax_lex.specs.Characters.{is_among}
-use Rattle.ssr_syntax_lex.specs.Seams.{is_seam, side_by_side, ends_in_line_comment, has_token_at, begins_at_seam, ends_at_seam}
+use Rattle.ssr_syntax_lex.specs.Seams.{is_seam, side_by_side, has_token_at, begins_at_seam, ends_at_seam}
 use Rattle.ssr_syntax_lex.specs.Tokens.{tokens}
 use Rattle.ssr_syntax_lex.specs.declared.tokens.RawToken.{RawToken}
 use Rattle.ssr_syntax_lex.proofs.Shared.{before_seam, behind_seam, cut_before_seam, cut_behind_seam, seam_begins, seam_ends, same_places}
@@ -33,8 +33,7 @@ single_among c (d ∷ e ∷ ds) all is =
 seam_utf8 : (c : ℕ) → is_seam c ≡ true → IsUtf8 (c ∷ [])
 unfolding AllSingle lib.Utf8.encode
 seam_utf8 c is =
-    single_among c (codes "()[]{},;")
-    (
+    single_among c (codes "()[]{},;") (
       (40 ∷ [], (refl, refl)),
       ((41 ∷ [], (refl, refl)), ((91 ∷ [], (refl, refl)), ((93 ∷ [], (refl, refl)), ((123 ∷ [], (refl, refl)), ((125 ∷ [], (refl, refl)), ((44 ∷ [], (refl, refl)), ((59 ∷ [], (refl, refl)), tt))))))),
     ) is

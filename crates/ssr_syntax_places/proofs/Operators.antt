@@ -1,6 +1,6 @@
 -- Operators in front of an operand, and between two, make an expression of operands that bind tightly enough.
-use Rattle.std.proofs.Common.{◌≡◌, ℕ, zero, suc, ◌+◌, ◌-◌, ◌<◌, ◌≤◌, nat_eq, Bool, true, false, not, ◌&&◌, ◌||◌, List, [], ◌∷◌, ◌++◌, length, refl, sym, ap, subst, ◌∙◌, arith}
-use Rattle.std.proofs.lemmas.Bool.{and_parts, and_left, or_from}
+use Rattle.std.proofs.Common.{◌≡◌, ℕ, zero, suc, ◌+◌, ◌-◌, ◌<◌, ◌≤◌, nat_eq, Bool, true, false, ◌&&◌, List, [], ◌∷◌, ◌++◌, length, refl, sym, subst, arith}
+use Rattle.std.proofs.lemmas.Bool.{and_parts}
 use Rattle.ssr_syntax_kinds.specs.declared.kinds.SyntaxKind.{SyntaxKind}
 use Rattle.ssr_syntax_kinds.specs.declared.kinds.SyntaxKind.TheVariants as k
 use Rattle.ssr_syntax_kinds.specs.Reach.{is_whole}
@@ -8,19 +8,18 @@ use Rattle.ssr_syntax_kinds.specs.declared.reach.Reach.{Reach}
 use Rattle.ssr_syntax_forms.specs.declared.tokens.Token.{Token}
 use Rattle.ssr_syntax_forms.specs.Kinds.{mem, where_whole}
 use Rattle.ssr_syntax_forms.specs.Trees.{Forest, done, leaf, join}
-use Rattle.ssr_syntax_forms.specs.Forms.{Form, passes, are_next, at, a, any, part, mark, child, seal, ◌then◌, nothing, optional}
+use Rattle.ssr_syntax_forms.specs.Forms.{passes, at, a, any, part, mark, child, seal, ◌then◌, nothing, optional}
 use Rattle.ssr_syntax_forms.proofs.Shared.{every, apart}
-use Rattle.ssr_syntax_types.specs.declared.goals.Goal.{Goal}
 use Rattle.ssr_syntax_types.specs.declared.goals.Goal.TheVariants.{Operand, Unary}
 use Rattle.ssr_syntax_types.specs.declared.goals.ExprPlace.TheVariants.{Anywhere}
 use Rattle.ssr_syntax_types.specs.Literals.{literals}
 use Rattle.ssr_syntax_types.specs.Paths.{path_first}
-use Rattle.ssr_syntax_types.specs.Types.{ampersands, pointer_words}
+use Rattle.ssr_syntax_types.specs.Types.{ampersands}
 use Rattle.ssr_syntax_exprs.specs.Atoms.{operand_first, braceless_first, operand_marks, stated_marks, leaving_first}
 use Rattle.ssr_syntax_exprs.specs.Blocks.{block_words, stated_block_words}
 use Rattle.ssr_syntax_exprs.specs.Expressions.{prefix_operators, prefix_expr, ref_expr, ref_words, raw_ahead, raw_words, attributed_or_postfix, unary, ranks, row, operators, at_most, operation, operations, climb, operand}
 use Rattle.ssr_syntax.specs.Grammar.{grammar}
-use Rattle.ssr_syntax_places.specs.Standing.{node, is_token, token_leaf, level, may_follow, begins_operand, Stands}
+use Rattle.ssr_syntax_places.specs.Standing.{node, is_token, token_leaf, level, begins_operand, Stands}
 use Rattle.ssr_syntax_places.proofs.InReach.{FitsIn, token_in, part_in, child_in, mark_in, seal_in, then_in, then_still, nothing_in, first_in, second_in, also_decide_in, turns_go_on_in, last_goes_on_in}
 use Rattle.ssr_syntax_places.proofs.Following.{begins_plainly, begins_with, begins_at, begins_behind, goes_behind, no_raw, token_follows}
 

@@ -1,14 +1,13 @@
 -- Whatever fits before a parenthesis stands in parentheses wherever an expression does.
-use Rattle.std.proofs.Common.{◌≡◌, ℕ, Bool, true, false, List, [], ◌∷◌, ◌++◌, refl}
+use Rattle.std.proofs.Common.{◌≡◌, Bool, true, false, List, [], ◌∷◌, ◌++◌, refl}
 use Rattle.ssr_syntax_kinds.specs.declared.kinds.SyntaxKind.TheVariants as k
 use Rattle.ssr_syntax_kinds.specs.Reach.{is_whole}
 use Rattle.ssr_syntax_kinds.specs.declared.reach.Reach.{Reach}
 use Rattle.ssr_syntax_forms.specs.declared.tokens.Token.{Token}
-use Rattle.ssr_syntax_forms.specs.Kinds.{mem, where_whole}
+use Rattle.ssr_syntax_forms.specs.Kinds.{where_whole}
 use Rattle.ssr_syntax_forms.specs.Trees.{Forest, done, join}
-use Rattle.ssr_syntax_forms.specs.Forms.{Form, at, a, mark, child, seal, ◌then◌, choose}
+use Rattle.ssr_syntax_forms.specs.Forms.{at, a, mark, child, seal, choose}
 use Rattle.ssr_syntax_forms.proofs.Shared.{every}
-use Rattle.ssr_syntax_types.specs.declared.goals.Goal.{Goal}
 use Rattle.ssr_syntax_types.specs.declared.goals.Goal.TheVariants.{Expr}
 use Rattle.ssr_syntax_types.specs.declared.goals.ExprPlace.TheVariants.{Anywhere}
 use Rattle.ssr_syntax_types.specs.Literals.{literal, literals}

@@ -1,6 +1,6 @@
 -- Names, and paths of them, stand wherever an expression does.
-use Rattle.std.proofs.Common.{◌≡◌, ℕ, ◌-◌, nat_eq, Bool, true, false, not, ◌&&◌, ◌||◌, List, [], ◌∷◌, ◌++◌, length, drop, refl, sym, ap, subst, ◌∙◌, eqb-true, append_assoc}
-use Rattle.std.proofs.lemmas.Bool.{and_from, and_left, and_parts, and_right, or_from, or_left, or_parts, not-true}
+use Rattle.std.proofs.Common.{◌≡◌, ◌-◌, nat_eq, Bool, true, false, not, ◌&&◌, ◌||◌, List, [], ◌∷◌, ◌++◌, length, drop, refl, ap, ◌∙◌, eqb-true, append_assoc}
+use Rattle.std.proofs.lemmas.Bool.{and_from, and_left, and_parts, and_right, or_from, or_parts, not-true}
 use Rattle.ssr_syntax_kinds.specs.declared.kinds.SyntaxKind.{SyntaxKind}
 use Rattle.ssr_syntax_kinds.specs.declared.kinds.SyntaxKind.TheVariants as k
 use Rattle.ssr_syntax_kinds.specs.Kinds.{same_kind}
@@ -9,7 +9,7 @@ use Rattle.ssr_syntax_kinds.specs.declared.reach.Reach.{Reach}
 use Rattle.ssr_syntax_forms.specs.declared.tokens.Token.{Token}
 use Rattle.ssr_syntax_forms.specs.Kinds.{mem, where_whole}
 use Rattle.ssr_syntax_forms.specs.Trees.{Forest, done, join}
-use Rattle.ssr_syntax_forms.specs.Forms.{Form, next, are_next, passes, any, at, mark, seal, ◌then◌, choose, look, child, nothing, a, optional, as_long_as, many}
+use Rattle.ssr_syntax_forms.specs.Forms.{Form, next, are_next, passes, any, at, mark, seal, ◌then◌, look, child, nothing, a, optional, as_long_as, many}
 use Rattle.ssr_syntax_forms.proofs.Shared.{apart, every, every_mem, at_next}
 use Rattle.ssr_syntax_types.specs.declared.goals.Goal.{Goal}
 use Rattle.ssr_syntax_types.specs.declared.goals.Goal.TheVariants.{GenericArgs}

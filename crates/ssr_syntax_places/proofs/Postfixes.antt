@@ -1,8 +1,7 @@
 -- Calls, fields, indices and `?` behind an expression that may be gone on with.
-use Rattle.std.proofs.Common.{◌≡◌, ℕ, zero, suc, ◌-◌, nat_eq, Bool, true, false, not, ◌&&◌, ◌||◌, List, [], ◌∷◌, ◌++◌, length, refl, sym, ap, subst, ◌∙◌}
+use Rattle.std.proofs.Common.{◌≡◌, ◌-◌, nat_eq, Bool, true, false, not, ◌&&◌, ◌||◌, List, [], ◌∷◌, ◌++◌, length, refl, ap, subst, ◌∙◌}
 use Rattle.std.proofs.lemmas.List.{append-nil}
 use Rattle.std.proofs.lemmas.Bool.{and_parts, not-true, or_parts}
-use Rattle.ssr_syntax_kinds.specs.declared.kinds.SyntaxKind.{SyntaxKind}
 use Rattle.ssr_syntax_kinds.specs.declared.kinds.SyntaxKind.TheVariants as k
 use Rattle.ssr_syntax_kinds.specs.Kinds.{same_kind}
 use Rattle.ssr_syntax_kinds.specs.Reach.{is_whole}
@@ -10,17 +9,16 @@ use Rattle.ssr_syntax_kinds.specs.declared.reach.Reach.{Reach}
 use Rattle.ssr_syntax_forms.specs.declared.tokens.Token.{Token}
 use Rattle.ssr_syntax_forms.specs.Kinds.{mem}
 use Rattle.ssr_syntax_forms.specs.Trees.{Forest, done, join}
-use Rattle.ssr_syntax_forms.specs.Forms.{Form, passes, are_next, next, at, a, mark, child, seal, ◌then◌, choose, look, also, decide}
+use Rattle.ssr_syntax_forms.specs.Forms.{passes, next, at, a, mark, child, seal, ◌then◌, choose, look, also}
 use Rattle.ssr_syntax_forms.proofs.Shared.{every_mem, at_next}
-use Rattle.ssr_syntax_types.specs.declared.goals.Goal.{Goal}
 use Rattle.ssr_syntax_types.specs.declared.goals.Goal.TheVariants.{Expr}
 use Rattle.ssr_syntax_types.specs.declared.goals.ExprPlace.TheVariants.{Anywhere}
-use Rattle.ssr_syntax_types.specs.Paths.{colon_angle, open_angle, name_ref, number_ref}
+use Rattle.ssr_syntax_types.specs.Paths.{colon_angle, name_ref, number_ref}
 use Rattle.ssr_syntax_exprs.specs.Expressions.{postfix_first, atom, arg_list, call_expr, index_expr, try_expr, field_expr, method_call_expr, generic_method_call_expr, generic_method_call_or_field, named_member, numbered_member, field_or_method, await_expr, member, postfix, postfixes, postfix_expr}
 use Rattle.ssr_syntax.specs.Grammar.{grammar}
 use Rattle.ssr_syntax_places.specs.Standing.{node, is_token, token_leaf, level, may_follow, Stands, StandsBefore, AreArguments, between, bracketed, with_name}
 use Rattle.ssr_syntax_places.proofs.InReach.{FitsIn, token_in, child_in, mark_in, seal_in, then_in, then_still, first_in, second_in, look_in, also_in, undecided_in, turns_go_on_in, last_goes_on_in}
-use Rattle.ssr_syntax_places.proofs.Following.{begins_behind, goes_behind, token_follows, token_alone_follows}
+use Rattle.ssr_syntax_places.proofs.Following.{begins_behind, token_follows, token_alone_follows}
 use Rattle.ssr_syntax_places.proofs.Arguments.{arg_list_fits}
 
 -- ** What goes on with an expression.
@@ -116,7 +114,7 @@ call_stands reach x y us opening vs closing opens closes stands are =
     stands_gone_on reach true true x (node k.CALL_EXPR (join x (bracketed k.ARG_LIST opening y closing))) us (between opening vs closing) stands
     (λ rest. parenthesis_follows opening (vs ++ closing) rest opens)
     (λ rest may. call_goes_on (is_whole reach) x (bracketed k.ARG_LIST opening y closing) (between opening vs closing) rest
-        (arg_list_fits reach opening closing y vs rest opens closes are))
+    (arg_list_fits reach opening closing y vs rest opens closes are))
 
 -- ** Fields and methods.
 
@@ -163,9 +161,9 @@ method_call_stands reach before x y us dot name opening vs closing is_dot is_nam
     stands_gone_on reach before true x z us (dot ++ (name ++ between opening vs closing)) stands
     (λ rest. token_follows before (k.DOT ∷ []) dot (name ++ between opening vs closing) rest refl is_dot)
     (λ rest may. dotted (is_whole reach) x z dot (name ++ between opening vs closing) rest is_dot
-        (named (is_whole reach) (join x (token_leaf dot)) z name (between opening vs closing) rest is_name
-        (method_goes_on (is_whole reach) (with_name x dot name) args (between opening vs closing) rest
-        (arg_list_fits reach opening closing y vs rest opens closes are))))
+    (named (is_whole reach) (join x (token_leaf dot)) z name (between opening vs closing) rest is_name
+    (method_goes_on (is_whole reach) (with_name x dot name) args (between opening vs closing) rest
+    (arg_list_fits reach opening closing y vs rest opens closes are))))
 
 no_generics : (rest : List Token) → may_follow false rest ≡ true → passes colon_angle rest ≡ false
 no_generics [] may = refl
@@ -199,8 +197,8 @@ field_stands reach before x us dot name is_dot is_name stands =
     stands_gone_on reach before false x z us (dot ++ name) stands
     (λ rest. token_follows before (k.DOT ∷ []) dot name rest refl is_dot)
     (λ rest may. dotted b x z dot name rest is_dot
-        (subst (λ w. FitsIn b grammar field_or_method (join x (token_leaf dot)) z w rest) (append-nil name)
-        (named b (join x (token_leaf dot)) z name [] rest is_name (field_goes_on b (with_name x dot name) rest may))))
+    (subst (λ w. FitsIn b grammar field_or_method (join x (token_leaf dot)) z w rest) (append-nil name)
+    (named b (join x (token_leaf dot)) z name [] rest is_name (field_goes_on b (with_name x dot name) rest may))))
 
 number_goes_on : (b : Bool) (x : Forest) (number rest : List Token) → is_token (k.INT_NUMBER ∷ []) number ≡ true
     → FitsIn b grammar field_or_method x (node k.FIELD_EXPR (join x (node k.NAME_REF (token_leaf number)))) number rest

@@ -1,5 +1,5 @@
 -- The solid tokens of a text are whole: what a token is joined from stands behind it, and is no brace that closes.
-use Rattle.std.proofs.Common.{◌≡◌, ℕ, zero, suc, ◌-◌, nat_le, Bool, true, false, not, ◌&&◌, ◌||◌, if◌then◌else◌, List, [], ◌∷◌, length, take, drop, Some, None, inl, inr, refl, sym, ap, subst, ◌∙◌, arith}
+use Rattle.std.proofs.Common.{◌≡◌, ℕ, suc, ◌-◌, nat_le, Bool, true, false, not, ◌&&◌, if◌then◌else◌, List, [], ◌∷◌, length, take, Some, None, inl, inr, refl, sym, ap, subst, ◌∙◌, arith}
 use Rattle.std.specs.Prelude.{Option}
 use Rattle.std.proofs.lemmas.Bool.{and_from, cases_Bool, le-leb, leb-true, not-true, and_parts, or_from}
 use Rattle.ssr_syntax_kinds.specs.declared.kinds.SyntaxKind.{SyntaxKind}
@@ -73,8 +73,8 @@ next_other : (next kind both : SyntaxKind) → joined next kind ≡ Some both �
 next_other next kind both e =
     elim (cases_Bool (same_kind next k.R_CURLY)) [
       | inl is ↦
-        let clash : joined k.R_CURLY kind ≡ Some both = ap (λ n. joined n kind) (sym (same_kind-equal next k.R_CURLY is)) ∙ e in
-        absurd (cc (clash, brace_ends_none kind))
+          let clash : joined k.R_CURLY kind ≡ Some both = ap (λ n. joined n kind) (sym (same_kind-equal next k.R_CURLY is)) ∙ e in
+          absurd (cc (clash, brace_ends_none kind))
       | inr other ↦ other
     ]
 

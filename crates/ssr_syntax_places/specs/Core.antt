@@ -148,11 +148,11 @@ abbrev mutual
   core holes callable n at kind (tree m xs (leaf a us (tree j ys done))) =
       let behind : ℕ = at + length (spell xs) in
       if same_kind kind k.BIN_EXPR then
-        (nat_lt (row_in ranks a) (length ranks) && nat_le (4 + row_in ranks a) n) && is_leaf holes behind (operators (row_in ranks a)) a us
-        && (core holes false (4 + row_in ranks a) at m xs && core holes callable (3 + row_in ranks a) (behind + length us) j ys)
+      (nat_lt (row_in ranks a) (length ranks) && nat_le (4 + row_in ranks a) n) && is_leaf holes behind (operators (row_in ranks a)) a us
+      && (core holes false (4 + row_in ranks a) at m xs && core holes callable (3 + row_in ranks a) (behind + length us) j ys)
       else
-        nat_le 1 n && core holes false 1 at m xs
-        && (same_kind kind k.FIELD_EXPR && (is_leaf holes behind (k.DOT ∷ []) a us && is_name_ref holes (behind + length us) (member_names callable) j ys))
+      nat_le 1 n && core holes false 1 at m xs
+      && (same_kind kind k.FIELD_EXPR && (is_leaf holes behind (k.DOT ∷ []) a us && is_name_ref holes (behind + length us) (member_names callable) j ys))
   core holes callable n at kind (tree m xs (leaf a us (tree j ys (leaf b vs done)))) =
       let behind : ℕ = (at + length (spell xs)) + length us in
       nat_le 1 n && core holes false 1 at m xs && (is_held holes behind j ys || core holes false 12 behind j ys)
