@@ -19,3 +19,5 @@ mod CoreShapes
 mod CoreStands
 mod Fillings
 mod Insides
+mod Alike
+mod Placed

@@ -149,3 +149,8 @@ pub fn insides()
         → IsTrue (is_seam opening) → IsTrue (is_seam closing) → IsLexed (front ++ opening ∷ []) before → IsLexed inside within
         → tokens (closing ∷ behind) ≡ Some after → HasParts front opening inside (closing ∷ behind) before within after }
 {}
+
+/// Try.
+pub fn blocks()
+    ensures { (reach : Reach) → Unit {0} }
+{}
