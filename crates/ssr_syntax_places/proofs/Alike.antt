@@ -8,20 +8,7 @@ use Rattle.ssr_syntax_kinds.proofs.Shared.{same_kind-equal}
 use Rattle.ssr_syntax_forms.specs.declared.tokens.Token.{Token}
 use Rattle.ssr_syntax_forms.specs.Kinds.{mem}
 use Rattle.ssr_syntax_forms.specs.Forms.{Test, are_next, passes}
-
--- one of the tokens opens braces
-abbrev pub has_open : List Token → Bool
-has_open [] = false
-has_open (t ∷ ts) = same_kind t.joined k.L_CURLY || has_open ts
-
-abbrev pub begins_open : List Token → Bool
-begins_open [] = false
-begins_open (t ∷ ts) = same_kind t.joined k.L_CURLY
-
--- no token is joined from a brace that opens
-abbrev pub keeps_opens : List Token → Bool
-keeps_opens [] = true
-keeps_opens (t ∷ ts) = not (has_open (take (t.size - 1) ts)) && keeps_opens ts
+use Rattle.ssr_syntax_places.specs.Placing.{has_open, begins_open, keeps_opens}
 
 pub keeps_opens_behind : (us vs : List Token) → keeps_opens (us ++ vs) ≡ true → keeps_opens vs ≡ true
 keeps_opens_behind [] vs h = h

@@ -1,26 +1,52 @@
 -- No look of an expression tells one delimiter from another, or from the end.
 use Rattle.std.proofs.Common.{◌≡◌, ℕ, zero, suc, ◌-◌, ◌≤◌, nat_le, Bool, true, false, not, ◌&&◌, ◌||◌, List, [], ◌∷◌, ◌++◌, length, take, drop, refl, sym, ap, ◌∙◌}
 use Rattle.std.proofs.lemmas.List.{append-nil, drop-append-le}
-use Rattle.std.proofs.lemmas.Bool.{and_from, and_left, and_parts, leb-true, not-true}
+use Rattle.std.proofs.lemmas.Bool.{and_from, and_left, and_parts, leb-true, not-true, or_from, or_parts}
 use Rattle.ssr_syntax_kinds.specs.declared.kinds.SyntaxKind.{SyntaxKind}
+use Rattle.ssr_syntax_kinds.specs.declared.kinds.SyntaxKind.TheVariants as k
+use Rattle.ssr_syntax_kinds.specs.Kinds.{same_kind}
 use Rattle.ssr_syntax_forms.specs.declared.tokens.Token.{Token}
 use Rattle.ssr_syntax_forms.specs.Kinds.{mem}
 use Rattle.ssr_syntax_forms.specs.Trees.{Forest, done}
 use Rattle.ssr_syntax_forms.specs.Forms.{Form, Test, END, Productions, are_next, next, passes}
 use Rattle.ssr_syntax_forms.specs.Fitting.{Fits}
 use Rattle.ssr_syntax_forms.proofs.Shared.{apart, meets}
-use Rattle.ssr_syntax_places.specs.Delimited.{delimiters, has_brace, are_whole}
+use Rattle.ssr_syntax_places.specs.Delimited.{delimiters, braces, has_brace, are_whole}
+use Rattle.ssr_syntax_places.specs.Placing.{has_open, keeps_opens}
 use Rattle.ssr_syntax_places.proofs.Ahead.{looks, SameSight, ahead}
-use Rattle.ssr_syntax_places.proofs.Closing.{keeps_braces, keeps_front, stops, AllStop, closes, closing}
+use Rattle.ssr_syntax_places.proofs.Closing.{has_closing, keeps_braces, keeps_front, stops, AllStop, closes, closing}
 
 -- ** Tokens that are whole.
+
+no_closing : (ts : List Token) → has_brace ts ≡ false → has_closing ts ≡ false
+no_closing [] h = refl
+no_closing (t ∷ ts) h =
+    let halves = or_parts (mem t.joined braces) (has_brace ts) h in
+    let here = or_parts (same_kind t.joined k.R_CURLY) false (or_parts (same_kind t.joined k.L_CURLY) (mem t.joined (k.R_CURLY ∷ [])) halves.0).1 in
+    or_from (same_kind t.joined k.R_CURLY) (has_closing ts) here.0 (no_closing ts halves.1)
+
+no_open : (ts : List Token) → has_brace ts ≡ false → has_open ts ≡ false
+no_open [] h = refl
+no_open (t ∷ ts) h =
+    let halves = or_parts (mem t.joined braces) (has_brace ts) h in
+    let here = or_parts (same_kind t.joined k.L_CURLY) (mem t.joined (k.R_CURLY ∷ [])) halves.0 in
+    or_from (same_kind t.joined k.L_CURLY) (has_open ts) here.0 (no_open ts halves.1)
+
+pub whole_opens : (ts : List Token) → are_whole ts ≡ true → keeps_opens ts ≡ true
+whole_opens [] h = refl
+whole_opens (t ∷ ts) h =
+    let halves = and_parts (nat_le (t.size - 1) (length ts) && not (has_brace (take (t.size - 1) ts))) (are_whole ts) h in
+    let absent = (and_parts (nat_le (t.size - 1) (length ts)) (not (has_brace (take (t.size - 1) ts))) halves.0).1 in
+    and_from (not (has_open (take (t.size - 1) ts))) (keeps_opens ts)
+    (ap not (no_open (take (t.size - 1) ts) (not-true (has_brace (take (t.size - 1) ts)) absent))) (whole_opens ts halves.1)
 
 pub whole_keeps : (ts : List Token) → are_whole ts ≡ true → keeps_braces ts ≡ true
 whole_keeps [] h = refl
 whole_keeps (t ∷ ts) h =
     let halves = and_parts (nat_le (t.size - 1) (length ts) && not (has_brace (take (t.size - 1) ts))) (are_whole ts) h in
     let none = (and_parts (nat_le (t.size - 1) (length ts)) (not (has_brace (take (t.size - 1) ts))) halves.0).1 in
-    and_from (not (has_brace (take (t.size - 1) ts))) (keeps_braces ts) none (whole_keeps ts halves.1)
+    and_from (not (has_closing (take (t.size - 1) ts))) (keeps_braces ts)
+    (ap not (no_closing (take (t.size - 1) ts) (not-true (has_brace (take (t.size - 1) ts)) none))) (whole_keeps ts halves.1)
 
 pub whole_behind : (us vs : List Token) → are_whole (us ++ vs) ≡ true → are_whole vs ≡ true
 whole_behind [] vs h = h

@@ -20,4 +20,6 @@ mod CoreStands
 mod Fillings
 mod Insides
 mod Alike
+mod Conditions
 mod Placed
+mod Blocks

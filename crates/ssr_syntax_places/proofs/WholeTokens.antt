@@ -1,22 +1,23 @@
 -- The solid tokens of a text are whole: what a token is joined from stands behind it, and is no brace that closes.
-use Rattle.std.proofs.Common.{◌≡◌, ℕ, suc, ◌-◌, nat_le, Bool, true, false, not, ◌&&◌, if◌then◌else◌, List, [], ◌∷◌, length, take, Some, None, inl, inr, refl, sym, ap, subst, ◌∙◌, arith}
+use Rattle.std.proofs.Common.{◌≡◌, ℕ, suc, ◌-◌, nat_le, Bool, true, false, not, ◌&&◌, ◌||◌, if◌then◌else◌, List, [], ◌∷◌, length, take, Some, None, inl, inr, refl, sym, ap, subst, ◌∙◌, arith}
 use Rattle.std.specs.Prelude.{Option}
-use Rattle.std.proofs.lemmas.Bool.{and_from, cases_Bool, le-leb, leb-true, not-true, and_parts, or_from}
+use Rattle.std.proofs.lemmas.Bool.{and_from, and_parts, cases_Bool, le-leb, leb-true, not-true, or_cases, or_from}
 use Rattle.ssr_syntax_kinds.specs.declared.kinds.SyntaxKind.{SyntaxKind}
 use Rattle.ssr_syntax_kinds.specs.declared.kinds.SyntaxKind.TheVariants as k
 use Rattle.ssr_syntax_kinds.specs.Kinds.{same_kind, is_trivia}
 use Rattle.ssr_syntax_kinds.proofs.Shared.{same_kind-equal}
 use Rattle.ssr_syntax_lex.specs.declared.tokens.RawToken.{RawToken}
 use Rattle.ssr_syntax_forms.specs.declared.tokens.Token.{Token}
+use Rattle.ssr_syntax_forms.specs.Kinds.{mem}
 use Rattle.ssr_syntax_rows.specs.Solid.{with_eq, with_r_angle, twice, joined, lengthened, joined_two, joined_three, solid_token, solid_tokens}
 use Rattle.ssr_syntax_rows.proofs.Shared.{are_joined, is_mark, mark_solid}
-use Rattle.ssr_syntax_places.specs.Delimited.{has_brace, are_whole}
+use Rattle.ssr_syntax_places.specs.Delimited.{braces, has_brace, are_whole}
 
 -- ** No joined token is a brace, and none ends with one.
 
 abbrev is_other : Option SyntaxKind → Bool
 is_other None = true
-is_other (Some kind) = not (same_kind kind k.R_CURLY)
+is_other (Some kind) = not (mem kind braces)
 
 eq_other : (kind : SyntaxKind) → is_other (with_eq kind) ≡ true
 eq_other k.EQ = refl
@@ -59,43 +60,56 @@ joined_other k.EQ kind = eq_other kind
 joined_other k.R_ANGLE kind = angle_other kind
 joined_other next kind = perhaps_other (same_kind kind next) (twice kind) (twice_other kind)
 
-both_other : (next kind both : SyntaxKind) → joined next kind ≡ Some both → same_kind both k.R_CURLY ≡ false
-both_other next kind both e = not-true (same_kind both k.R_CURLY) (ap is_other (sym e) ∙ joined_other next kind)
+both_other : (next kind both : SyntaxKind) → joined next kind ≡ Some both → mem both braces ≡ false
+both_other next kind both e = not-true (mem both braces) (ap is_other (sym e) ∙ joined_other next kind)
 
-brace_ends_none : (kind : SyntaxKind) → joined k.R_CURLY kind ≡ None
-brace_ends_none kind =
-    elim (cases_Bool (same_kind kind k.R_CURLY)) [
-      | inl is ↦ rw is (ap twice (same_kind-equal kind k.R_CURLY is))
-      | inr other ↦ rw other refl
+-- a kind that is neither `=` nor `>` and isn't written twice ends no joined token
+if_none : (b : Bool) (o : Option SyntaxKind) → (b ≡ true → o ≡ None) → (if b then o else None) ≡ None
+if_none true o none = none refl
+if_none false o none = refl
+
+l_curly_ends_none : (kind : SyntaxKind) → joined k.L_CURLY kind ≡ None
+l_curly_ends_none kind = if_none (same_kind kind k.L_CURLY) (twice kind) (λ is. ap twice (same_kind-equal kind k.L_CURLY is))
+
+r_curly_ends_none : (kind : SyntaxKind) → joined k.R_CURLY kind ≡ None
+r_curly_ends_none kind = if_none (same_kind kind k.R_CURLY) (twice kind) (λ is. ap twice (same_kind-equal kind k.R_CURLY is))
+
+brace_ends_none : (next kind : SyntaxKind) → mem next braces ≡ true → joined next kind ≡ None
+brace_ends_none next kind is =
+    elim (or_cases (same_kind next k.L_CURLY) (mem next (k.R_CURLY ∷ [])) is) [
+      | inl opens ↦ ap (λ n. joined n kind) (same_kind-equal next k.L_CURLY opens) ∙ l_curly_ends_none kind
+      | inr later ↦
+        elim (or_cases (same_kind next k.R_CURLY) false later) [
+          | inl shuts ↦ ap (λ n. joined n kind) (same_kind-equal next k.R_CURLY shuts) ∙ r_curly_ends_none kind
+          | inr never ↦ absurd (cc)
+        ]
     ]
 
-next_other : (next kind both : SyntaxKind) → joined next kind ≡ Some both → same_kind next k.R_CURLY ≡ false
+next_other : (next kind both : SyntaxKind) → joined next kind ≡ Some both → mem next braces ≡ false
 next_other next kind both e =
-    elim (cases_Bool (same_kind next k.R_CURLY)) [
-      | inl is ↦
-          let clash : joined k.R_CURLY kind ≡ Some both = ap (λ n. joined n kind) (sym (same_kind-equal next k.R_CURLY is)) ∙ e in
-          absurd (cc (clash, brace_ends_none kind))
+    elim (cases_Bool (mem next braces)) [
+      | inl is ↦ absurd (cc (e, brace_ends_none next kind is))
       | inr other ↦ other
     ]
 
 -- ** A token that isn't a brace is joined to none.
 
-three_other : (kind two : SyntaxKind) (joint : Bool) (ts : List RawToken) (o : Option SyntaxKind) → same_kind two k.R_CURLY ≡ false
-    → lengthened two joint ts ≡ o → same_kind (joined_three kind two o).joined k.R_CURLY ≡ false
+three_other : (kind two : SyntaxKind) (joint : Bool) (ts : List RawToken) (o : Option SyntaxKind) → mem two braces ≡ false
+    → lengthened two joint ts ≡ o → mem (joined_three kind two o).joined braces ≡ false
 three_other kind two joint ts None other e = other
 three_other kind two true (next ∷ ts) (Some three) other e = both_other next.kind two three e
 three_other kind two true [] (Some three) other e = absurd (cc)
 three_other kind two false ts (Some three) other e = absurd (cc)
 
-two_other : (kind : SyntaxKind) (joint : Bool) (ts : List RawToken) (o : Option SyntaxKind) → same_kind kind k.R_CURLY ≡ false
-    → lengthened kind joint ts ≡ o → same_kind (joined_two kind ts o).joined k.R_CURLY ≡ false
+two_other : (kind : SyntaxKind) (joint : Bool) (ts : List RawToken) (o : Option SyntaxKind) → mem kind braces ≡ false
+    → lengthened kind joint ts ≡ o → mem (joined_two kind ts o).joined braces ≡ false
 two_other kind joint ts None other e = other
 two_other kind true (next ∷ ts) (Some two) other e =
     three_other kind two next.joint ts (lengthened two next.joint ts) (both_other next.kind kind two e) refl
 two_other kind true [] (Some two) other e = absurd (cc)
 two_other kind false ts (Some two) other e = absurd (cc)
 
-solid_other : (t : RawToken) (ts : List RawToken) → same_kind t.kind k.R_CURLY ≡ false → same_kind (solid_token t ts).joined k.R_CURLY ≡ false
+solid_other : (t : RawToken) (ts : List RawToken) → mem t.kind braces ≡ false → mem (solid_token t ts).joined braces ≡ false
 solid_other t ts other = two_other t.kind t.joint ts (lengthened t.kind t.joint ts) other refl
 
 -- ** What a token is joined from.
@@ -107,12 +121,12 @@ Covers n ts = (nat_le n (length ts) && not (has_brace (take n ts))) ≡ true
 covers_none : (ts : List Token) → Covers 0 ts
 covers_none ts = and_from (nat_le 0 (length ts)) true (le-leb 0 (length ts) (omega arith)) refl
 
-covers_more : (n : ℕ) (t : Token) (ts : List Token) → same_kind t.joined k.R_CURLY ≡ false → Covers n ts → Covers (suc n) (t ∷ ts)
+covers_more : (n : ℕ) (t : Token) (ts : List Token) → mem t.joined braces ≡ false → Covers n ts → Covers (suc n) (t ∷ ts)
 covers_more n t ts other covers =
     let halves = and_parts (nat_le n (length ts)) (not (has_brace (take n ts))) covers in
     let inside = leb-true n (length ts) halves.0 in
     and_from (nat_le (suc n) (length (t ∷ ts))) (not (has_brace (take (suc n) (t ∷ ts)))) (le-leb (suc n) (length (t ∷ ts)) (omega (arith, inside)))
-    (ap not (or_from (same_kind t.joined k.R_CURLY) (has_brace (take n ts)) other (not-true (has_brace (take n ts)) halves.1)))
+    (ap not (or_from (mem t.joined braces) (has_brace (take n ts)) other (not-true (has_brace (take n ts)) halves.1)))
 
 solid_first : (t : RawToken) (ts : List RawToken) → is_trivia t.kind ≡ false → solid_tokens (t ∷ ts) ≡ solid_token t ts ∷ solid_tokens ts
 solid_first t ts solid = ap (λ b. if b then solid_tokens ts else solid_token t ts ∷ solid_tokens ts) solid

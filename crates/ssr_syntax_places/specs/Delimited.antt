@@ -1,6 +1,6 @@
 -- Between brackets: what may stand behind an expression so that no rule looks further.
 use Rattle.std.specs.Prelude.{◌-◌, nat_le, Bool, true, false, not, ◌&&◌, ◌||◌, List, [], ◌∷◌, length, take}
-use Rattle.ssr_syntax_kinds.specs.Kinds.{same_kind}
+use Rattle.ssr_syntax_forms.specs.Kinds.{mem}
 use Rattle.ssr_syntax_kinds.specs.declared.kinds.SyntaxKind.{SyntaxKind}
 use Rattle.ssr_syntax_kinds.specs.declared.kinds.SyntaxKind.TheVariants as k
 use Rattle.ssr_syntax_forms.specs.declared.tokens.Token.{Token}
@@ -25,12 +25,15 @@ is_within = elim [
 abbrev pub delimiters : List SyntaxKind
 delimiters = END ∷ k.R_PAREN ∷ k.R_BRACK ∷ k.COMMA ∷ k.SEMICOLON ∷ []
 
--- one of the tokens closes braces
+abbrev pub braces : List SyntaxKind
+braces = k.L_CURLY ∷ k.R_CURLY ∷ []
+
+-- one of the tokens is a brace
 abbrev pub has_brace : List Token → Bool
 has_brace [] = false
-has_brace (t ∷ ts) = same_kind t.joined k.R_CURLY || has_brace ts
+has_brace (t ∷ ts) = mem t.joined braces || has_brace ts
 
--- all that each token is joined from is among the tokens, and no brace that closes is
+-- all that each token is joined from is among the tokens, and no brace is
 abbrev pub are_whole : List Token → Bool
 are_whole [] = true
 are_whole (t ∷ ts) = (nat_le (t.size - 1) (length ts) && not (has_brace (take (t.size - 1) ts))) && are_whole ts

@@ -2,3 +2,4 @@ pub mod Standing
 pub mod Delimited
 pub mod Core
 pub mod Insides
+pub mod Placing

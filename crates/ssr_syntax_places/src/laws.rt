@@ -23,6 +23,7 @@ ghost use Rattle.std.specs.Str.{IsUtf8};
 ghost use Rattle.ssr_syntax_lex.specs.Seams.{is_seam, has_token_at};
 ghost use Rattle.ssr_syntax_lex.specs.Tokens.{tokens};
 ghost use Rattle.ssr_syntax_places.specs.Insides.{with_inside, IsLexed, HasParts, AreParts};
+ghost use Rattle.ssr_syntax_places.specs.Placing.{blocks, Puts};
 ghost use Rattle.ssr_syntax_places.specs.Standing.{node, closing_marks, is_token, IsPath, token_leaf, Stands, StandsAnywhere, StandsBefore, AreArguments, between, bracketed, with_name};
 
 /// A literal stands wherever an expression does, and so does a path of names.
@@ -150,7 +151,10 @@ pub fn insides()
         → tokens (closing ∷ behind) ≡ Some after → HasParts front opening inside (closing ∷ behind) before within after }
 {}
 
-/// Try.
+/// Statements in braces are replaced wherever they stand in a tree that fits: with others in their places that fit, too, the
+/// tree still fits. No rule looks past a brace that opens or closes.
 pub fn blocks()
-    ensures { (reach : Reach) → Unit {0} }
+    ensures { (reach : Reach) (asked : Goal) (z w : Forest) (us : List Token) → IsTrue (are_whole us)
+        → Fits (grammar_of reach) (grammar_of reach asked) done z us [] → Puts (grammar_of reach) blocks z w
+        → Fits (grammar_of reach) (grammar_of reach asked) done w (spell w) [] }
 {}

@@ -1,5 +1,5 @@
-use Rattle.ssr_syntax_places.proofs.Placed.{placed, owned_placed}
+use Rattle.ssr_syntax_places.proofs.Blocks.{blocks_replaced}
 use Rattle.ssr_syntax_places.proofs.laws.blocks.Goals as goal
 
 pub returns : goal.returns
-returns c = λ reach. tt
+returns c = blocks_replaced
