@@ -22,5 +22,10 @@ pub use Rattle.ssr_syntax_places.proofs.WholeTokens.{whole_solid}
 pub use Rattle.ssr_syntax_places.proofs.Filling.{filled_append, spelled, single_filled}
 pub use Rattle.ssr_syntax_places.proofs.CoreStands.{core_stands}
 pub use Rattle.ssr_syntax_places.proofs.Fillings.{stands_fills, alone_fills, filled_fits}
+-- nodes in the places of others
+pub use Rattle.ssr_syntax_places.proofs.Alike.{Alike, alike_front, alike_open, stops_open}
+pub use Rattle.ssr_syntax_places.proofs.Placed.{is_clear, is_owner, Owned, made_anew}
+pub use Rattle.ssr_syntax_places.proofs.Delimited.{blocks_owned}
+pub use Rattle.ssr_syntax_places.proofs.Blocks.{blocks_replaced, block_put}
 -- the inside of brackets in a text
 pub use Rattle.ssr_syntax_places.proofs.Insides.{put_inside, cut_inside}

@@ -4,7 +4,7 @@ ghost use Rattle.ssr_syntax_kinds.specs.declared.reach.Reach.{Reach};
 ghost use Rattle.ssr_syntax_kinds.specs.declared.kinds.SyntaxKind.{SyntaxKind};
 ghost use Rattle.ssr_syntax_kinds.specs.declared.kinds.SyntaxKind.TheVariants as k;
 ghost use Rattle.ssr_syntax_forms.specs.Fitting.{Fits};
-ghost use Rattle.ssr_syntax_forms.specs.Forms.{next};
+ghost use Rattle.ssr_syntax_forms.specs.Forms.{Condition, holds, next};
 ghost use Rattle.ssr_syntax_forms.specs.Kinds.{mem};
 ghost use Rattle.ssr_syntax_forms.specs.Trees.{Forest, done, join, leaf, spell};
 ghost use Rattle.ssr_syntax_forms.specs.declared.tokens.Token.{Token};
@@ -23,7 +23,7 @@ ghost use Rattle.std.specs.Str.{IsUtf8};
 ghost use Rattle.ssr_syntax_lex.specs.Seams.{is_seam, has_token_at};
 ghost use Rattle.ssr_syntax_lex.specs.Tokens.{tokens};
 ghost use Rattle.ssr_syntax_places.specs.Insides.{with_inside, IsLexed, HasParts, AreParts};
-ghost use Rattle.ssr_syntax_places.specs.Placing.{blocks, Puts};
+ghost use Rattle.ssr_syntax_places.specs.Placing.{begins_open, blocks, is_asked, Puts};
 ghost use Rattle.ssr_syntax_places.specs.Standing.{node, closing_marks, is_token, IsPath, token_leaf, Stands, StandsAnywhere, StandsBefore, AreArguments, between, bracketed, with_name};
 
 /// A literal stands wherever an expression does, and so does a path of names.
@@ -152,9 +152,14 @@ pub fn insides()
 {}
 
 /// Statements in braces are replaced wherever they stand in a tree that fits: with others in their places that fit, too, the
-/// tree still fits. No rule looks past a brace that opens or closes.
+/// tree still fits. No rule looks past a brace that opens or closes. Where the old statements have neither `<` nor `(`, as in
+/// the path of a macro, the new ones may not have them.
 pub fn blocks()
-    ensures { (reach : Reach) (asked : Goal) (z w : Forest) (us : List Token) → IsTrue (are_whole us)
+    ensures replaced { (reach : Reach) (asked : Goal) (z w : Forest) (us : List Token) → IsTrue (are_whole us)
         → Fits (grammar_of reach) (grammar_of reach asked) done z us [] → Puts (grammar_of reach) blocks z w
         → Fits (grammar_of reach) (grammar_of reach asked) done w (spell w) [] }
+    ensures put { (reach : Reach) (old new : Forest) → IsTrue (begins_open (spell old)) → IsTrue (begins_open (spell new))
+        → ((condition : Condition) → IsTrue (is_asked condition) → IsTrue (holds condition (spell old)) → IsTrue (holds condition (spell new)))
+        → IsTrue (are_whole (spell new)) → Fits (grammar_of reach) (grammar_of reach StmtList) done (node k.STMT_LIST new) (spell new) []
+        → Puts (grammar_of reach) blocks (node k.STMT_LIST old) (node k.STMT_LIST new) }
 {}
