@@ -19,6 +19,7 @@ mod CoreShapes
 mod CoreStands
 mod Fillings
 mod Insides
+mod Woven
 mod Alike
 mod Conditions
 mod Placed

@@ -3,3 +3,4 @@ pub mod Delimited
 pub mod Core
 pub mod Insides
 pub mod Placing
+pub mod Woven

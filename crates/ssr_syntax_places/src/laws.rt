@@ -12,7 +12,8 @@ ghost use Rattle.ssr_syntax_types.specs.declared.goals.Goal.{Goal};
 ghost use Rattle.ssr_syntax_types.specs.declared.goals.ExprPlace.TheVariants.{Anywhere};
 ghost use Rattle.ssr_syntax_types.specs.declared.goals.Goal.TheVariants.{Expr, StmtList};
 ghost use Rattle.ssr_syntax_lex.specs.declared.tokens.RawToken.{RawToken};
-ghost use Rattle.ssr_syntax_rows.specs.Solid.{solid_tokens};
+ghost use Rattle.ssr_syntax_rows.specs.Solid.{pieces, solid_tokens};
+ghost use Rattle.ssr_syntax_places.specs.Woven.{Part, AreWoven, StandFor, pieces_parts, solid_parts, woven};
 ghost use Rattle.ssr_syntax_types.specs.Literals.{literals};
 ghost use Rattle.ssr_syntax_types.specs.Types.{ampersands};
 ghost use Rattle.ssr_syntax_exprs.specs.Expressions.{operators, prefix_operators, ranks};
@@ -149,6 +150,17 @@ pub fn insides()
     ensures put { (front inside behind : List ℕ) (opening closing : ℕ) (before within after : List RawToken) → IsUtf8 front
         → IsTrue (is_seam opening) → IsTrue (is_seam closing) → IsLexed (front ++ opening ∷ []) before → IsLexed inside within
         → tokens (closing ∷ behind) ≡ Some after → HasParts front opening inside (closing ∷ behind) before within after }
+{}
+
+/// A text with several insides, each behind a character that opens it and in front of one that closes it, has the tokens of
+/// its parts, if each is lexed by itself. With a name in the place of each inside they are those of a template, whose filled
+/// tokens are those of the text.
+pub fn many_insides()
+    ensures lexes { (parts : List Part) (last : List ℕ) (after : List RawToken) → AreWoven parts last → tokens last ≡ Some after
+        → (raw : List RawToken) × (tokens (woven parts last) ≡ Some raw) × (solid_tokens raw ≡ solid_parts parts (solid_tokens after))
+        × (pieces (woven parts last) raw ≡ pieces_parts parts (pieces last after)) }
+    ensures filled { (holes : Holes) (at : ℕ) (short long : List Part) (after : List Token) → StandFor holes at short long after
+        → tokens_filled holes at (solid_parts short after) ≡ solid_parts long after }
 {}
 
 /// Statements in braces are replaced wherever they stand in a tree that fits: with others in their places that fit, too, the
