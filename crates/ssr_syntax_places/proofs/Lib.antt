@@ -20,6 +20,7 @@ mod CoreStands
 mod Fillings
 mod Insides
 mod Woven
+mod LongTexts
 mod Alike
 mod Conditions
 mod Placed

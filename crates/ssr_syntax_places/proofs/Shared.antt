@@ -27,5 +27,7 @@ pub use Rattle.ssr_syntax_places.proofs.Alike.{Alike, alike_front, alike_open, s
 pub use Rattle.ssr_syntax_places.proofs.Placed.{is_clear, is_owner, Owned, made_anew}
 pub use Rattle.ssr_syntax_places.proofs.Delimited.{blocks_owned}
 pub use Rattle.ssr_syntax_places.proofs.Blocks.{blocks_replaced, block_put}
--- the inside of brackets in a text
+-- the insides of brackets in a text
 pub use Rattle.ssr_syntax_places.proofs.Insides.{put_inside, cut_inside}
+pub use Rattle.ssr_syntax_places.proofs.Woven.{woven_lexes, woven_filled}
+pub use Rattle.ssr_syntax_places.proofs.LongTexts.{long_fits}

@@ -154,13 +154,18 @@ pub fn insides()
 
 /// A text with several insides, each behind a character that opens it and in front of one that closes it, has the tokens of
 /// its parts, if each is lexed by itself. With a name in the place of each inside they are those of a template, whose filled
-/// tokens are those of the text.
+/// tokens are those of the text. So the text fits, with the filled template as its tree, if the template is core.
 pub fn many_insides()
     ensures lexes { (parts : List Part) (last : List ℕ) (after : List RawToken) → AreWoven parts last → tokens last ≡ Some after
         → (raw : List RawToken) × (tokens (woven parts last) ≡ Some raw) × (solid_tokens raw ≡ solid_parts parts (solid_tokens after))
         × (pieces (woven parts last) raw ≡ pieces_parts parts (pieces last after)) }
     ensures filled { (holes : Holes) (at : ℕ) (short long : List Part) (after : List Token) → StandFor holes at short long after
         → tokens_filled holes at (solid_parts short after) ≡ solid_parts long after }
+    ensures fits { (reach : Reach) (holes : Holes) (short long : List Part) (last : List ℕ) (after : List RawToken) (kind : SyntaxKind) (kids : Forest)
+        → AreFillings reach holes → AreWoven long last → tokens last ≡ Some after → StandFor holes 0 short long (solid_tokens after)
+        → spell (node kind kids) ≡ solid_parts short (solid_tokens after) → IsTrue (core holes false 12 0 kind kids)
+        → (raw : List RawToken) × (tokens (woven long last) ≡ Some raw)
+        × Fits (grammar_of reach) (grammar_of reach (Expr Anywhere)) done (filled holes 0 (node kind kids)) (solid_tokens raw) [] }
 {}
 
 /// Statements in braces are replaced wherever they stand in a tree that fits: with others in their places that fit, too, the
