@@ -36,5 +36,5 @@ pub block_put : (reach : Reach) (old new : Forest) → begins_open (spell old) �
 block_put reach old new old_open new_open meets whole fits =
     put refl old_open new_open meets
     (λ asked rest mine. subst (λ goal. Fits (grammar_of reach) (grammar_of reach goal) done (node k.STMT_LIST new) (spell new) rest)
-        (sym (only_lists asked mine)) (block_anywhere reach (node k.STMT_LIST new) (spell new) [] rest whole fits))
+    (sym (only_lists asked mine)) (block_anywhere reach (node k.STMT_LIST new) (spell new) [] rest whole fits))
     no_tree

@@ -1,5 +1,5 @@
 -- What the grammar asks of tokens is met with other nodes in the places of some, if each of these meets it where the old one does.
-use Rattle.std.proofs.Common.{◌≡◌, Bool, true, false, not, ◌&&◌, List, [], ◌∷◌, ◌++◌, refl, sym, ap, subst, ◌∙◌}
+use Rattle.std.proofs.Common.{◌≡◌, Bool, true, false, not, ◌&&◌, List, [], ◌∷◌, ◌++◌, refl, sym, ap, ◌∙◌}
 use Rattle.std.proofs.lemmas.List.{append-nil}
 use Rattle.std.proofs.lemmas.Bool.{and_from, and_parts}
 use Rattle.std.proofs.Math.Bool.{and_assoc}
@@ -7,7 +7,7 @@ use Rattle.ssr_syntax_kinds.specs.declared.kinds.SyntaxKind.{SyntaxKind}
 use Rattle.ssr_syntax_forms.specs.declared.tokens.Token.{Token}
 use Rattle.ssr_syntax_forms.specs.Kinds.{mem}
 use Rattle.ssr_syntax_forms.specs.Forms.{Condition, none_is, last_isnt, Productions, holds}
-use Rattle.ssr_syntax_forms.specs.Trees.{Forest, done, leaf, tree, spell}
+use Rattle.ssr_syntax_forms.specs.Trees.{Forest, spell}
 use Rattle.ssr_syntax_places.specs.Placing.{Own, Puts, no_tree, same_leaf, kept, put, begins_open}
 
 is_empty : List Token → Bool

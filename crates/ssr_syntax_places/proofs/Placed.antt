@@ -1,5 +1,5 @@
 -- A node that some goals own is replaced wherever it stands by another one that fits them, if both begin with a brace.
-use Rattle.std.proofs.Common.{◌≡◌, Bool, true, false, not, ◌&&◌, ◌||◌, List, [], ◌∷◌, ◌++◌, ◌⊎◌, inl, inr, refl, sym, ap, subst, ◌∙◌, append_assoc}
+use Rattle.std.proofs.Common.{◌≡◌, Bool, true, false, not, ◌&&◌, List, [], ◌∷◌, ◌++◌, ◌⊎◌, inl, inr, refl, sym, ap, subst, ◌∙◌, append_assoc}
 use Rattle.std.proofs.lemmas.List.{append-nil}
 use Rattle.std.proofs.lemmas.Bool.{and_parts, cases_Bool, not-true}
 use Rattle.ssr_syntax_kinds.specs.declared.kinds.SyntaxKind.{SyntaxKind}
@@ -7,7 +7,7 @@ use Rattle.ssr_syntax_kinds.specs.Kinds.{same_kind}
 use Rattle.ssr_syntax_kinds.proofs.Shared.{same_kind-equal, equal-same_kind}
 use Rattle.ssr_syntax_forms.specs.declared.tokens.Token.{Token}
 use Rattle.ssr_syntax_forms.specs.Trees.{Forest, done, leaf, tree, join, spell}
-use Rattle.ssr_syntax_forms.specs.Forms.{Form, Condition, one, child, mark, seal, ◌then◌, nothing, choose, many, look, check, wide, Productions, agrees, passes, holds, taken_as}
+use Rattle.ssr_syntax_forms.specs.Forms.{Form, Condition, one, child, mark, seal, ◌then◌, nothing, choose, many, look, check, wide, Productions, agrees, taken_as}
 use Rattle.ssr_syntax_forms.specs.Fitting.{Fits, token, goal, marked, sealed, behind, none, first, second, stop, turn, looked, checked, stated}
 use Rattle.ssr_syntax_forms.proofs.Shared.{at_some_level, goals_spell}
 use Rattle.ssr_syntax_places.specs.Placing.{Own, Puts, no_tree, same_leaf, kept, put, begins_open, keeps_opens}
@@ -187,14 +187,14 @@ mutual
       let s = split grammar own x y w p in
       let inner : IsPlaced grammar own (grammar asked) done s.last us rest ahead = elim (cases_Bool (own.owns asked)) [
         | inl mine ↦
-          let seal_is = owner_seals grammar own (grammar asked) done y us rest (owned.owners asked mine) f in
-          elim (node_cases grammar own own.kind seal_is.0 s.last (subst (λ v. Puts grammar own v s.last) seal_is.1 s.last_put)) [
-            | inl stay ↦
-              subst (λ v. IsPlaced grammar own (grammar asked) done v us rest ahead) (sym stay.is)
-              (owned_placed grammar own owned (grammar asked) done y us rest (owned.owners asked mine) keeps seal_is.0 seal_is.1 stay.inner stay.inner_put ahead alike f)
-            | inr (same, new) ↦
-              put_anew grammar own asked seal_is.0 s.last us rest ahead mine (ap spell (sym seal_is.1) ∙ goal_spelled grammar asked y us rest f) new
-          ]
+            let seal_is = owner_seals grammar own (grammar asked) done y us rest (owned.owners asked mine) f in
+            elim (node_cases grammar own own.kind seal_is.0 s.last (subst (λ v. Puts grammar own v s.last) seal_is.1 s.last_put)) [
+              | inl stay ↦
+                  subst (λ v. IsPlaced grammar own (grammar asked) done v us rest ahead) (sym stay.is)
+                  (owned_placed grammar own owned (grammar asked) done y us rest (owned.owners asked mine) keeps seal_is.0 seal_is.1 stay.inner stay.inner_put ahead alike f)
+              | inr (same, new) ↦
+                  put_anew grammar own asked seal_is.0 s.last us rest ahead mine (ap spell (sym seal_is.1) ∙ goal_spelled grammar asked y us rest f) new
+            ]
         | inr other ↦ placed grammar own owned (grammar asked) done y us rest (owned.others asked other) keeps s.last s.last_put ahead alike f
       ] in
       beside grammar own (grammar asked) (child asked) x y w us rest ahead (λ v u vs h. goal h) s inner

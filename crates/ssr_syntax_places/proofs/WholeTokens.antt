@@ -1,5 +1,5 @@
 -- The solid tokens of a text are whole: what a token is joined from stands behind it, and is no brace that closes.
-use Rattle.std.proofs.Common.{◌≡◌, ℕ, suc, ◌-◌, nat_le, Bool, true, false, not, ◌&&◌, ◌||◌, if◌then◌else◌, List, [], ◌∷◌, length, take, Some, None, inl, inr, refl, sym, ap, subst, ◌∙◌, arith}
+use Rattle.std.proofs.Common.{◌≡◌, ℕ, suc, ◌-◌, nat_le, Bool, true, false, not, ◌&&◌, if◌then◌else◌, List, [], ◌∷◌, length, take, Some, None, inl, inr, refl, sym, ap, subst, ◌∙◌, arith}
 use Rattle.std.specs.Prelude.{Option}
 use Rattle.std.proofs.lemmas.Bool.{and_from, and_parts, cases_Bool, le-leb, leb-true, not-true, or_cases, or_from}
 use Rattle.ssr_syntax_kinds.specs.declared.kinds.SyntaxKind.{SyntaxKind}
@@ -79,10 +79,10 @@ brace_ends_none next kind is =
     elim (or_cases (same_kind next k.L_CURLY) (mem next (k.R_CURLY ∷ [])) is) [
       | inl opens ↦ ap (λ n. joined n kind) (same_kind-equal next k.L_CURLY opens) ∙ l_curly_ends_none kind
       | inr later ↦
-        elim (or_cases (same_kind next k.R_CURLY) false later) [
-          | inl shuts ↦ ap (λ n. joined n kind) (same_kind-equal next k.R_CURLY shuts) ∙ r_curly_ends_none kind
-          | inr never ↦ absurd (cc)
-        ]
+          elim (or_cases (same_kind next k.R_CURLY) false later) [
+            | inl shuts ↦ ap (λ n. joined n kind) (same_kind-equal next k.R_CURLY shuts) ∙ r_curly_ends_none kind
+            | inr never ↦ absurd (cc)
+          ]
     ]
 
 next_other : (next kind both : SyntaxKind) → joined next kind ≡ Some both → mem next braces ≡ false

@@ -1,12 +1,12 @@
 -- A text with several insides has the tokens of its parts, and with names for the insides those of a template.
-use Rattle.std.proofs.Common.{◌≡◌, ℕ, ◌+◌, true, List, [], ◌∷◌, ◌++◌, length, Some, refl, sym, ap, subst, ◌∙◌}
+use Rattle.std.proofs.Common.{◌≡◌, ℕ, ◌+◌, true, List, [], ◌∷◌, ◌++◌, length, Some, refl, ap, ◌∙◌}
 use Rattle.ssr_syntax_lex.specs.Tokens.{tokens}
 use Rattle.ssr_syntax_lex.specs.declared.tokens.RawToken.{RawToken}
 use Rattle.ssr_syntax_forms.specs.declared.tokens.Token.{Token}
 use Rattle.ssr_syntax_rows.specs.Solid.{solid_tokens, pieces}
-use Rattle.ssr_syntax_places.specs.Core.{Hole, Holes, is_single, tokens_filled}
-use Rattle.ssr_syntax_places.specs.Insides.{with_inside, IsLexed, HasParts}
-use Rattle.ssr_syntax_places.specs.Woven.{Part, woven, begins_seam, AreWoven, solid_parts, pieces_parts, StandFor}
+use Rattle.ssr_syntax_places.specs.Core.{Holes, is_single, tokens_filled}
+use Rattle.ssr_syntax_places.specs.Insides.{HasParts}
+use Rattle.ssr_syntax_places.specs.Woven.{Part, woven, AreWoven, solid_parts, pieces_parts, StandFor}
 use Rattle.ssr_syntax_places.proofs.Filling.{filled_append, single_filled, spelled, tokens_front}
 use Rattle.ssr_syntax_places.proofs.Insides.{put_inside}
 
