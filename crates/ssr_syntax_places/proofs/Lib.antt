@@ -21,6 +21,7 @@ mod Fillings
 mod Insides
 mod Woven
 mod LongTexts
+mod Loosest
 mod Alike
 mod Conditions
 mod Placed

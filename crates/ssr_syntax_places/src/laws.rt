@@ -16,7 +16,7 @@ ghost use Rattle.ssr_syntax_rows.specs.Solid.{pieces, solid_tokens};
 ghost use Rattle.ssr_syntax_places.specs.Woven.{Part, AreWoven, StandFor, pieces_parts, solid_parts, woven};
 ghost use Rattle.ssr_syntax_types.specs.Literals.{literals};
 ghost use Rattle.ssr_syntax_types.specs.Types.{ampersands};
-ghost use Rattle.ssr_syntax_exprs.specs.Expressions.{operators, prefix_operators, ranks};
+ghost use Rattle.ssr_syntax_exprs.specs.Expressions.{assignments, operators, prefix_operators, ranks};
 ghost use Rattle.ssr_syntax.specs.Grammar.{grammar_of};
 ghost use Rattle.ssr_syntax_places.specs.Core.{Hole, Holes, hole_of, are_spelled, is_single, IsFilling, AreFillings, core, filled, node_filled, tokens_filled};
 ghost use Rattle.ssr_syntax_places.specs.Delimited.{is_within, are_whole, delimiters};
@@ -59,6 +59,19 @@ pub fn operators()
     ensures binary { (reach : Reach) (r : ℕ) (called callable : Bool) (x y : Forest) (us op vs : List Token) → r < length ranks
         → IsTrue (is_token (operators r) op) → Stands reach (4 + r) called x us → Stands reach (3 + r) callable y vs
         → Stands reach (4 + r) callable (node k.BIN_EXPR (join (join x (token_leaf op)) y)) (us ++ (op ++ vs)) }
+{}
+
+/// Ranges and assignments, which bind least, are expressions, whatever follows.
+pub fn loosest()
+    ensures range { (reach : Reach) (called callable : Bool) (x y : Forest) (us dots vs : List Token) → IsTrue (is_token (k.DOT2 ∷ []) dots)
+        → Stands reach 12 called x us → Stands reach 12 callable y vs
+        → StandsAnywhere reach (node k.RANGE_EXPR (join (join x (token_leaf dots)) y)) (us ++ (dots ++ vs)) }
+    ensures inclusive { (reach : Reach) (called callable : Bool) (x y : Forest) (us dots vs : List Token) → IsTrue (is_token (k.DOT2EQ ∷ []) dots)
+        → Stands reach 12 called x us → Stands reach 12 callable y vs
+        → StandsAnywhere reach (node k.RANGE_EXPR (join (join x (token_leaf dots)) y)) (us ++ (dots ++ vs)) }
+    ensures assignment { (reach : Reach) (called : Bool) (x y : Forest) (us op vs : List Token) → IsTrue (is_token assignments op)
+        → Stands reach 12 called x us → StandsAnywhere reach y vs
+        → StandsAnywhere reach (node k.BIN_EXPR (join (join x (token_leaf op)) y)) (us ++ (op ++ vs)) }
 {}
 
 /// Whatever fits before a parenthesis stands in parentheses wherever an expression does.
