@@ -1,15 +1,13 @@
 -- Ranges and assignments, which bind least, are expressions whatever follows.
-use Rattle.std.proofs.Common.{◌≡◌, ℕ, ◌≤◌, Bool, true, false, if◌then◌else◌, List, [], ◌∷◌, ◌++◌, refl, ◌∙◌, arith}
-use Rattle.ssr_syntax_kinds.specs.declared.kinds.SyntaxKind.{SyntaxKind}
+use Rattle.std.proofs.Common.{◌≡◌, Bool, true, false, if◌then◌else◌, List, [], ◌∷◌, ◌++◌, refl, ◌∙◌}
 use Rattle.ssr_syntax_kinds.specs.declared.kinds.SyntaxKind.TheVariants as k
 use Rattle.ssr_syntax_kinds.specs.Reach.{is_whole}
 use Rattle.ssr_syntax_kinds.specs.declared.reach.Reach.{Reach}
 use Rattle.ssr_syntax_forms.specs.declared.tokens.Token.{Token}
 use Rattle.ssr_syntax_forms.specs.Kinds.{mem}
 use Rattle.ssr_syntax_forms.specs.Trees.{Forest, done, join}
-use Rattle.ssr_syntax_forms.specs.Forms.{Form, next, a, any, at, child, seal, ◌then◌, nothing, choose, look, optional, optional_by, choose_by, look_by}
+use Rattle.ssr_syntax_forms.specs.Forms.{next, a, any, at, child, seal, ◌then◌, nothing, choose, look, optional, optional_by, choose_by, look_by}
 use Rattle.ssr_syntax_forms.proofs.Shared.{every, at_next}
-use Rattle.ssr_syntax_types.specs.declared.goals.Goal.{Goal}
 use Rattle.ssr_syntax_types.specs.declared.goals.Goal.TheVariants.{Expr, Operand}
 use Rattle.ssr_syntax_types.specs.declared.goals.ExprPlace.TheVariants.{Anywhere}
 use Rattle.ssr_syntax_types.specs.PatternSets.{ranges}
