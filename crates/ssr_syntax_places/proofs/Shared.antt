@@ -31,3 +31,5 @@ pub use Rattle.ssr_syntax_places.proofs.Blocks.{blocks_replaced, block_put}
 pub use Rattle.ssr_syntax_places.proofs.Insides.{put_inside, cut_inside}
 pub use Rattle.ssr_syntax_places.proofs.Woven.{woven_lexes, woven_filled}
 pub use Rattle.ssr_syntax_places.proofs.LongTexts.{long_fits}
+-- ranges and assignments
+pub use Rattle.ssr_syntax_places.proofs.Loosest.{range_anywhere, inclusive_anywhere, assignment_anywhere}
