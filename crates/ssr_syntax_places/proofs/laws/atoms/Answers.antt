@@ -1,5 +1,4 @@
-use Rattle.ssr_syntax_places.proofs.Atoms.{literal_stands}
-use Rattle.ssr_syntax_places.proofs.Paths.{path_stands}
+use Rattle.ssr_syntax_places.proofs.Shared.{literal_stands, path_stands}
 use Rattle.ssr_syntax_places.proofs.laws.atoms.Goals as goal
 
 pub returns : goal.returns
