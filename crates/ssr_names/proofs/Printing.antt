@@ -1,0 +1,94 @@
+-- Paths that are printed.
+use Rattle.std.proofs.Common.{ℕ, ◌≡◌, ◌+◌, ◌<◌, ◌⊎◌, inl, inr, true, List, [], ◌∷◌, ◌++◌, length, take, get_or, slice_get, codes, Option, Some, None, refl, sym, ap, ◌∙◌, subst, add-one}
+use Rattle.std.proofs.Math.Seq.{take-suc}
+use Rattle.std.proofs.lemmas.Option.{none-some, same_Some}
+use Rattle.std.specs.Prelude.{IfOk, IfSome, OnOk, Result, Ok, Err, String, string_bytes}
+use Rattle.std.specs.BTreeMap.{BTreeMap, get}
+use Rattle.std.specs.Option.{option_map}
+use Rattle.std.specs.declared.alloc.Global.{Global}
+use Rattle.ssr_base_trees.specs.declared.ids.ScopeId.{ScopeId}
+use Rattle.ssr_base_trees.specs.declared.ids.DefId.{DefId}
+use Rattle.ssr_names_items.specs.declared.names.Names.{Names as Numbers}
+use Rattle.ssr_names_items.specs.declared.table.Name.{Name}
+use Rattle.ssr_names_items.specs.declared.table.ModuleNo.{ModuleNo}
+use Rattle.ssr_names_items.specs.declared.table.Namespace.{Namespace}
+use Rattle.ssr_names_items.specs.declared.table.Namespace.TheVariants as ns
+use Rattle.ssr_names.specs.contracts.provider.PrintedKeyOrd.TheImpl as printed_order
+use Rattle.ssr_names.specs.declared.definitions.Definition.{Definition}
+use Rattle.ssr_names.specs.declared.printed.Written.{Written}
+use Rattle.ssr_names.specs.declared.provider.Names.{Names}
+use Rattle.ssr_names.specs.declared.provider.PrintedKey.{PrintedKey}
+use Rattle.ssr_names.specs.declared.space.Space.{Space}
+use Rattle.ssr_names.specs.Lookup.{Place}
+use Rattle.ssr_names.specs.Printed.{EndsWithName, EndsWithNames, LeadsTo, PathsLead, Reaches, ends_with_more}
+use Rattle.ssr_names.specs.Provider.{told}
+use Rattle.ssr_names.specs.WholePaths.{WholeStandsFor}
+use Rattle.ssr_names.specs.Private.Printed.{AreReached, IsPathOf, IsPrintedMore, Leads, is_in}
+
+-- ** Where a path leads.
+
+-- what holds in each of the three namespaces holds in all
+pub leads_in_all : (space : Space) (place : Place) (names : List Name) (written : Written) (n : Namespace) → is_in written n ≡ true
+    → (is_in written ns.Type ≡ true → WholeStandsFor space place ns.Type names written.definition)
+    → (is_in written ns.Value ≡ true → WholeStandsFor space place ns.Value names written.definition)
+    → (is_in written ns.Macro ≡ true → WholeStandsFor space place ns.Macro names written.definition) → Leads space place names written
+leads_in_all space place names written n among as_type as_value as_macro = record { namespace = n; among = among; each = each }
+  where
+    each : (k : Namespace) → is_in written k ≡ true → WholeStandsFor space place k names written.definition
+    each ns.Type is = as_type is
+    each ns.Value is = as_value is
+    each ns.Macro is = as_macro is
+
+-- a path that leads to what is written in each of its namespaces leads there in one
+pub leads_to : (space : Space) (m : ModuleNo) (written : Written) (text : List ℕ) → IsPathOf space m written text → LeadsTo space m text written.definition
+leads_to space m written text is = record {
+  start = is.start;
+  names = is.names;
+  spelled = is.spelled;
+  namespace = is.leads.namespace;
+  stands = is.leads.each is.leads.namespace is.leads.among;
+}
+
+-- what is found is found of another property too, if that follows
+pub found_too : {T E : Type 0} (r : Result (Option T) E) (P Q : T → Type 0) → ((x : T) → P x → Q x) → IfOk r (λ o. IfSome o P) → IfOk r (λ o. IfSome o Q)
+found_too (Ok None) P Q follows had = tt
+found_too (Ok (Some x)) P Q follows had = follows x had
+found_too (Err e) P Q follows had = tt
+
+-- ** How it is spelled.
+
+-- one more name behind a text of names
+pub one_name_more : (numbers : Numbers) (front : List ℕ) (first : Name) (others : List Name) (i : ℕ) (name : Name) (before text : List ℕ) → i < length others
+    → get_or others i name ≡ name → EndsWithNames numbers front (first ∷ take i others) before → EndsWithName numbers name (before ++ codes "::") text
+    → EndsWithNames numbers front (first ∷ take (i + 1) others) text
+one_name_more numbers front first others i name before text within is so_far here =
+    subst (λ (all : List Name). EndsWithNames numbers front (first ∷ all) text) (sym next) (ends_with_more (first ∷ take i others) name before text so_far here)
+  where
+    next : take (i + 1) others ≡ take i others ++ name ∷ []
+    next = ap (λ n. take n others) (add-one i) ∙ take-suc others i name within ∙ ap (λ e. take i others ++ e ∷ []) is
+
+-- ** The rows.
+
+module _ (space : Space) (definitions : List Definition) where
+  pub reaches_by : (scope : ScopeId) (number : DefId) (written : Written) (text : List ℕ) → slice_get definitions number.0 ≡ Some written.definition
+      → IsPathOf space (record { 0 = scope.0 }) written text → Reaches space definitions scope number text
+  reaches_by scope number written text numbered is =
+      record { definition = written.definition; numbered = numbered; leads = leads_to space (record { 0 = scope.0 }) written text is }
+
+  pub reached_more : (old new : BTreeMap PrintedKey (String Global)) (added : PrintedKey) (text : String Global) → IsPrintedMore old new added text
+      → Reaches space definitions added.scope added.def (string_bytes text) → AreReached space definitions old → AreReached space definitions new
+  reached_more old new added text more here all key told is =
+      elim (more key told is) [
+        | inl had ↦ all key told had
+        | inr one ↦ subst (λ (k : PrintedKey). Reaches space definitions k.scope k.def (string_bytes told)) (sym one.0)
+            (subst (λ (t : String Global). Reaches space definitions added.scope added.def (string_bytes t)) (sym one.1) here)
+      ]
+
+  -- what rows have, the provider by these rows tells
+  pub paths_lead : (names : Names) → AreReached space definitions names.printed → PathsLead space definitions (told names)
+  paths_lead names all scope number text is = from (get ((printed_order.ghosts).cmp) names.printed (record { scope = scope; def = number })) refl is
+    where
+      from : (o : Option (String Global)) → get ((printed_order.ghosts).cmp) names.printed (record { scope = scope; def = number }) ≡ o → option_map string_bytes o ≡ Some text
+          → Reaches space definitions scope number text
+      from None held none = absurd (none-some text none)
+      from (Some t) held one = subst (Reaches space definitions scope number) (same_Some (string_bytes t) text one) (all (record { scope = scope; def = number }) t held)
