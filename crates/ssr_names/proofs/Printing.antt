@@ -1,9 +1,9 @@
 -- Paths that are printed.
-use Rattle.std.proofs.Common.{ℕ, ◌≡◌, ◌+◌, ◌<◌, ◌⊎◌, inl, inr, true, List, [], ◌∷◌, ◌++◌, length, take, get_or, slice_get, codes, Option, Some, None, refl, sym, ap, ◌∙◌, subst, add-one}
-use Rattle.std.proofs.Math.Seq.{take-suc}
+use Rattle.std.proofs.Common.{ℕ, ◌≡◌, ◌+◌, ◌<◌, ◌⊎◌, inl, inr, true, List, [], ◌∷◌, ◌++◌, length, take, get_or, slice_get, codes, Option, Some, None, refl, sym, ap, ◌∙◌, subst}
 use Rattle.std.proofs.lemmas.Option.{none-some, same_Some}
 use Rattle.std.specs.Prelude.{IfOk, IfSome, OnOk, Result, Ok, Err, String, string_bytes}
-use Rattle.std.specs.BTreeMap.{BTreeMap, get}
+use Rattle.std.specs.BTreeMap.{BTreeMap, get, is_at}
+use Rattle.std.specs.Map.{lookup}
 use Rattle.std.specs.Option.{option_map}
 use Rattle.std.specs.declared.alloc.Global.{Global}
 use Rattle.ssr_base_trees.specs.declared.ids.ScopeId.{ScopeId}
@@ -11,6 +11,7 @@ use Rattle.ssr_base_trees.specs.declared.ids.DefId.{DefId}
 use Rattle.ssr_names_items.specs.declared.names.Names.{Names as Numbers}
 use Rattle.ssr_names_items.specs.declared.table.Name.{Name}
 use Rattle.ssr_names_items.specs.declared.table.ModuleNo.{ModuleNo}
+use Rattle.ssr_names_items.specs.declared.table.Start.{Start}
 use Rattle.ssr_names_items.specs.declared.table.Namespace.{Namespace}
 use Rattle.ssr_names_items.specs.declared.table.Namespace.TheVariants as ns
 use Rattle.ssr_names.specs.contracts.provider.PrintedKeyOrd.TheImpl as printed_order
@@ -20,9 +21,10 @@ use Rattle.ssr_names.specs.declared.provider.Names.{Names}
 use Rattle.ssr_names.specs.declared.provider.PrintedKey.{PrintedKey}
 use Rattle.ssr_names.specs.declared.space.Space.{Space}
 use Rattle.ssr_names.specs.Lookup.{Place}
-use Rattle.ssr_names.specs.Printed.{EndsWithName, EndsWithNames, LeadsTo, PathsLead, Reaches, ends_with_more}
+use Rattle.ssr_names.specs.Printed.{EndsWithName, EndsWithNames, LeadsTo, PathsLead, Reaches, Spells, ends_with_more, front_text}
 use Rattle.ssr_names.specs.Provider.{told}
 use Rattle.ssr_names.specs.WholePaths.{WholeStandsFor}
+use Rattle.ssr_names.proofs.Following.{name_more}
 use Rattle.ssr_names.specs.Private.Printed.{AreReached, IsPathOf, IsPrintedMore, Leads, is_in}
 
 -- ** Where a path leads.
@@ -58,14 +60,22 @@ found_too (Err e) P Q follows had = tt
 -- ** How it is spelled.
 
 -- one more name behind a text of names
-pub one_name_more : (numbers : Numbers) (front : List ℕ) (first : Name) (others : List Name) (i : ℕ) (name : Name) (before text : List ℕ) → i < length others
-    → get_or others i name ≡ name → EndsWithNames numbers front (first ∷ take i others) before → EndsWithName numbers name (before ++ codes "::") text
+pub one_name_more : (numbers : Numbers) (front : List ℕ) (first : Name) (others : List Name) (i : ℕ) (name : Name) (before mid text : List ℕ) → i < length others
+    → get_or others i name ≡ name → EndsWithNames numbers front (first ∷ take i others) before → mid ≡ before ++ codes "::" → EndsWithName numbers name mid text
     → EndsWithNames numbers front (first ∷ take (i + 1) others) text
-one_name_more numbers front first others i name before text within is so_far here =
-    subst (λ (all : List Name). EndsWithNames numbers front (first ∷ all) text) (sym next) (ends_with_more (first ∷ take i others) name before text so_far here)
-  where
-    next : take (i + 1) others ≡ take i others ++ name ∷ []
-    next = ap (λ n. take n others) (add-one i) ∙ take-suc others i name within ∙ ap (λ e. take i others ++ e ∷ []) is
+one_name_more numbers front first others i name before mid text within is so_far parted here =
+    subst (λ (all : List Name). EndsWithNames numbers front (first ∷ all) text) (sym (name_more others i name within is))
+    (ends_with_more (first ∷ take i others) name before text so_far (subst (λ (m : List ℕ). EndsWithName numbers name m text) parted here))
+
+-- names behind what a path begins with
+pub spells : (numbers : Numbers) (start : Start) (names : List Name) (front : List ℕ) (first : Name) (others : List Name) (text : List ℕ) → front_text start ≡ Some front
+    → names ≡ first ∷ others → EndsWithNames numbers front (first ∷ others) text → Spells numbers start names text
+spells numbers start names front first others text begins is ends =
+    record { front = front; begins = begins; ends = subst (λ (all : List Name). EndsWithNames numbers front all text) (sym is) ends }
+
+pub path_of : (space : Space) (m : ModuleNo) (written : Written) (start : Start) (names : List Name) (text : List ℕ) → Spells space.table.now.names start names text
+    → Leads space (record { start = start; within = m; import = None }) names written → IsPathOf space m written text
+path_of space m written start names text spelled leads = record { start = start; names = names; spelled = spelled; leads = leads }
 
 -- ** The rows.
 
@@ -74,6 +84,10 @@ module _ (space : Space) (definitions : List Definition) where
       → IsPathOf space (record { 0 = scope.0 }) written text → Reaches space definitions scope number text
   reaches_by scope number written text numbered is =
       record { definition = written.definition; numbered = numbered; leads = leads_to space (record { 0 = scope.0 }) written text is }
+
+  pub none_reached : (printed : BTreeMap PrintedKey (String Global)) → printed.entries ≡ [] → AreReached space definitions printed
+  none_reached printed empty key text is =
+      absurd (none-some text (sym (ap (λ (rows : List (PrintedKey × String Global)). lookup (is_at ((printed_order.ghosts).cmp key)) rows) empty) ∙ is))
 
   pub reached_more : (old new : BTreeMap PrintedKey (String Global)) (added : PrintedKey) (text : String Global) → IsPrintedMore old new added text
       → Reaches space definitions added.scope added.def (string_bytes text) → AreReached space definitions old → AreReached space definitions new

@@ -1,6 +1,6 @@
 //! By which path a scope reaches a definition.
 ghost use Rattle.std.specs.Prelude.{◌≡◌, ◌∷◌, true, Some, IfOk, IfSome, OnOk, string_bytes};
-ghost use Rattle.ssr_names.specs.Printed.{EndsWithName, EndsWithNames, front_text};
+ghost use Rattle.ssr_names.specs.Printed.{EndsWithName, EndsWithNames, Spells, front_text};
 ghost use Rattle.ssr_names.specs.WholePaths.{WholeStandsFor};
 ghost use Rattle.ssr_names.specs.Private.Answered.{place_of};
 ghost use Rattle.ssr_names.specs.Private.Printed.{IsPathOf, Leads, is_in};
@@ -282,13 +282,10 @@ impl<'p> Printer<'p> {
         let Some(namespace) = written.somewhere() else {
             return Ok(false);
         };
-        if !self.leads_as(outside, path, written, Namespace::Type)? {
-            return Ok(false);
-        }
-        if !self.leads_as(outside, path, written, Namespace::Value)? {
-            return Ok(false);
-        }
-        self.leads_as(outside, path, written, Namespace::Macro)
+        let as_type = self.leads_as(outside, path, written, Namespace::Type)?;
+        let as_value = self.leads_as(outside, path, written, Namespace::Value)?;
+        let as_macro = self.leads_as(outside, path, written, Namespace::Macro)?;
+        Ok(as_type && as_value && as_macro)
     }
 
     /// Whether a path leads to a definition in a namespace, if it is written in that.
@@ -419,6 +416,24 @@ impl<'p> Printer<'p> {
         Ok(text)
     }
 
+    /// A path as text that is written in a module, if it begins so that it is printed.
+    fn spelled(
+        &self,
+        module: ModuleNo,
+        start: Start,
+        names: &[Name],
+    ) -> Result<Option<String>, AllocError>
+        ensures { IfOk result (λ found. IfSome found (λ text. Spells self.now.space.now.table.now.names start names.now (string_bytes text))) }
+    {
+        let Some(front) = front_text(start) else {
+            return Ok(None);
+        };
+        let Some((first, others)) = names.split_first() else {
+            return Ok(None);
+        };
+        Ok(Some(self.text(module, front, *first, others)?))
+    }
+
     /// A path as text, if it leads to the definition where it is written.
     fn text_if_leads(
         &self,
@@ -430,9 +445,9 @@ impl<'p> Printer<'p> {
     ) -> Result<Option<String>, AllocError>
         ensures { IfOk result (λ found. IfSome found (λ text. IsPathOf self.now.space.now «module» written (string_bytes text))) }
     {
-        let (Some(front), Some((first, others))) = (front_text(start), names.split_first()) else {
+        if names.is_empty() {
             return Ok(None);
-        };
+        }
         let path = PathQuestion {
             start,
             names,
@@ -440,10 +455,11 @@ impl<'p> Printer<'p> {
             module,
             import: None,
         };
-        if !self.leads(outside, path, written)? {
+        let leads = self.leads(outside, path, written)?;
+        if !leads {
             return Ok(None);
         }
-        Ok(Some(self.text(module, front, *first, others)?))
+        self.spelled(module, start, names)
     }
 
     /// The shortest end of a path that leads to the definition.

@@ -295,7 +295,24 @@ fn add_text(
     Ok(())
 }
 
-/// The paths by which a module reaches what is written.
+/// Adds the path by which a scope reaches what is written, if it does.
+fn add_reached(
+    printer: &Printer<'_>,
+    outside: &mut OutsidePaths,
+    wanted: &Wanted,
+    key: PrintedKey,
+    template: &Template,
+    printed: &mut BTreeMap<PrintedKey, String>,
+) -> Result<(), AllocError>
+    ensures { AreReached printer.now.space.now wanted.now.definitions.items printed.old → OnOk result (AreReached printer.now.space.now wanted.now.definitions.items printed.new) }
+{
+    let Some(text) = reached(printer, outside, wanted, key, template)? else {
+        return Ok(());
+    };
+    add_text(printed, key, text)
+}
+
+/// Adds the paths by which a module reaches what is written.
 fn add_printed(
     printer: &Printer<'_>,
     outside: &mut OutsidePaths,
@@ -307,9 +324,7 @@ fn add_printed(
 {
     for (def, template) in wanted.written.iter() {
         let key = PrintedKey { scope, def: *def };
-        if let Some(text) = reached(printer, outside, wanted, key, template)? {
-            add_text(printed, key, text)?;
-        }
+        add_reached(printer, outside, wanted, key, template, printed)?;
     }
     Ok(())
 }
