@@ -1,9 +1,11 @@
 -- Paths that are printed.
-use Rattle.std.proofs.Common.{ℕ, ◌≡◌, ◌+◌, ◌<◌, ◌⊎◌, inl, inr, true, List, [], ◌∷◌, ◌++◌, length, take, get_or, slice_get, codes, Option, Some, None, refl, sym, ap, ◌∙◌, subst}
+use Rattle.std.proofs.Common.{ℕ, ◌≡◌, ◌+◌, ◌<◌, ◌⊎◌, inl, inr, Bool, true, false, cond, ◌==◌, List, [], ◌∷◌, ◌++◌, length, take, get_or, slice_get, codes, Option, Some, None, refl, sym, ap, ◌∙◌, subst}
 use Rattle.std.proofs.lemmas.Option.{none-some, same_Some}
 use Rattle.std.specs.Prelude.{IfOk, IfSome, OnOk, Result, Ok, Err, String, string_bytes}
-use Rattle.std.specs.BTreeMap.{BTreeMap, get, is_at}
+use Rattle.std.specs.BTreeMap.{BTreeMap, Updates, get, is_at}
 use Rattle.std.specs.Map.{lookup}
+use Rattle.std.specs.Cmp.{both_tied, unsigned_ties}
+use Rattle.std.proofs.lemmas.Bool.{and_parts, eqb-true}
 use Rattle.std.specs.Option.{option_map}
 use Rattle.std.specs.declared.alloc.Global.{Global}
 use Rattle.ssr_base_trees.specs.declared.ids.ScopeId.{ScopeId}
@@ -78,6 +80,25 @@ pub path_of : (space : Space) (m : ModuleNo) (written : Written) (start : Start)
 path_of space m written start names text spelled leads = record { start = start; names = names; spelled = spelled; leads = leads }
 
 -- ** The rows.
+
+-- keys that their order doesn't tell apart are the same
+same_keys : (a b : PrintedKey) → is_at ((printed_order.ghosts).cmp a) b ≡ true → a ≡ b
+same_keys a b tied =
+    let parts = and_parts (a.scope.0 == b.scope.0) (a.def.0 == b.def.0) (both_tied _ _ _ _ (unsigned_ties a.scope.0 b.scope.0) (unsigned_ties a.def.0 b.def.0) ∙ tied) in
+    let key : ℕ → ℕ → PrintedKey = λ scope def. record { scope = record { 0 = scope }; def = record { 0 = def } } in
+    ap (λ n. key n a.def.0) (eqb-true a.scope.0 b.scope.0 parts.0) ∙ ap (key b.scope.0) (eqb-true a.def.0 b.def.0 parts.1)
+
+-- a text that is put under a key is there, and each other one stays
+pub added_at : (old new : BTreeMap PrintedKey (String Global)) (key : PrintedKey) (text : String Global)
+    → Updates ((printed_order.ghosts).cmp) old new key (Some text) → IsPrintedMore old new key text
+added_at old new key text updates other told is = from (is_at ((printed_order.ghosts).cmp key) other) refl
+  where
+    from : (b : Bool) → is_at ((printed_order.ghosts).cmp key) other ≡ b → (get ((printed_order.ghosts).cmp) old other ≡ Some told) ⊎ ((other ≡ key) × (told ≡ text))
+    from false apart = inl (sym (updates.2 other apart) ∙ is)
+    from true tied = inr (
+      sym (same_keys key other tied),
+      sym (same_Some text told (sym (updates.0 other ∙ ap (λ b. cond b (Some text) (get ((printed_order.ghosts).cmp) old other)) tied) ∙ is)),
+    )
 
 module _ (space : Space) (definitions : List Definition) where
   pub reaches_by : (scope : ScopeId) (number : DefId) (written : Written) (text : List ℕ) → slice_get definitions number.0 ≡ Some written.definition
