@@ -12,7 +12,7 @@ pub loop-name-init : goal.loop-name-init
 loop-name-init c =
     let numbers = c.args.self.now.space.now.table.now.names in
     ends_with_one c.args.first (string_bytes c.push_name.new.text)
-    (subst (λ front. EndsWithName numbers c.args.first front (string_bytes c.push_name.new.text)) c.in_ok-text.ensures.bytes c.in_ok-push_name.ensures)
+    (subst (λ front. EndsWithName numbers c.args.first front (string_bytes c.push_name.new.text)) c.in_ok-text.ensures.ok c.in_ok-push_name.ensures)
 
 pub loop-name-preserved : goal.loop-name-preserved
 loop-name-preserved c =
