@@ -393,7 +393,8 @@ impl<'p> Printer<'p> {
         if is_keyword(spelled, edition) {
             text.push_str("r#")?;
         }
-        text.push_str(spelled)
+        text.push_str(spelled)?;
+        Ok(())
     }
 
     /// A path as text that is written in a module: what is in front of its names, the first one, and the others.

@@ -1,4 +1,4 @@
-use Rattle.std.proofs.Common.{◌<◌, ◌∷◌, List, length, get_or, string_bytes, subst}
+use Rattle.std.proofs.Common.{ℕ, ◌<◌, ◌∷◌, List, length, get_or, string_bytes, subst}
 use Rattle.ssr_names_items.specs.declared.table.Name.{Name}
 use Rattle.ssr_names.specs.Printed.{EndsWithName, EndsWithNames, ends_with_one}
 use Rattle.ssr_names.proofs.Climbing.{get_again, take_whole}
@@ -12,7 +12,7 @@ pub loop-name-init : goal.loop-name-init
 loop-name-init c =
     let numbers = c.args.self.now.space.now.table.now.names in
     ends_with_one c.args.first (string_bytes c.push_name.new.text)
-    (subst (λ front. EndsWithName numbers c.args.first front (string_bytes c.push_name.new.text)) c.in_ok-text.ensures.ok c.in_ok-push_name.ensures)
+    (subst (λ (front : List ℕ). EndsWithName numbers c.args.first front (string_bytes c.push_name.new.text)) c.in_ok-text.ensures.ok c.in_ok-push_name.ensures)
 
 pub loop-name-preserved : goal.loop-name-preserved
 loop-name-preserved c =
