@@ -5,6 +5,7 @@ mod Binding
 mod LookingUp
 mod Following
 mod Settling
+mod Printing
 mod Telling
 mod Spelling
 mod Copying

@@ -5,5 +5,6 @@ pub mod WholePaths
 pub mod Settled
 pub mod CodePaths
 pub mod Declarations
+pub mod Printed
 pub mod Told
 pub mod Private

@@ -8,4 +8,5 @@ pub mod Answered
 pub mod Settling
 pub mod Macros
 pub mod Rows
+pub mod Printed
 pub mod Copies

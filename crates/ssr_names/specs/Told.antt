@@ -24,6 +24,7 @@ use Rattle.ssr_names.specs.declared.space.Space.{Space}
 use Rattle.ssr_names.specs.CodePaths.{IsSpelledAs}
 use Rattle.ssr_names.specs.Declarations.{Declares, HasAliases, HasMembers, IsLater, IsOfTable}
 use Rattle.ssr_names.specs.Lookup.{Place}
+use Rattle.ssr_names.specs.Printed.{PathsLead}
 use Rattle.ssr_names.specs.Provider.{told}
 use Rattle.ssr_names.specs.Settled.{IsSettled}
 use Rattle.ssr_names.specs.WholePaths.{WholeStandsFor}
@@ -100,3 +101,5 @@ pub record TellsWhatStands (table : Table) (trees : List PlacedTree) (names : Na
   pub ready : IsReady space
   pub stands : (path : NodeId) (r : Res) → (told names).path path ≡ Some r
       → (d : Definition) × IsNumbered definitions r d × StandsAt space stranger (told names).scope trees path d
+  -- each path that is printed leads to the definition of its number
+  pub printed : PathsLead space definitions (told names)

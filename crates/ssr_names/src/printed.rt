@@ -1,4 +1,9 @@
 //! By which path a scope reaches a definition.
+ghost use Rattle.std.specs.Prelude.{◌≡◌, ◌∷◌, true, Some, IfOk, IfSome, OnOk, string_bytes};
+ghost use Rattle.ssr_names.specs.Printed.{EndsWithName, EndsWithNames, Spells, front_text};
+ghost use Rattle.ssr_names.specs.WholePaths.{WholeStandsFor};
+ghost use Rattle.ssr_names.specs.Private.Answered.{place_of};
+ghost use Rattle.ssr_names.specs.Private.Printed.{IsPathOf, Leads, is_in};
 
 use crate::definitions::{Definition, Meaning, OutsideNo};
 use crate::lookup::{PathQuestion, Question};
@@ -53,11 +58,28 @@ impl Written {
     }
 
     /// Whether it is written in a namespace.
-    fn is_in(self, namespace: Namespace) -> bool {
+    fn is_in(self, namespace: Namespace) -> bool
+        ensures { result ≡ is_in self namespace }
+    {
         match namespace {
             Namespace::Type => self.as_type,
             Namespace::Value => self.as_value,
             Namespace::Macro => self.as_macro,
+        }
+    }
+
+    /// Some namespace in which it is written.
+    fn somewhere(self) -> Option<Namespace>
+        ensures { IfSome result (λ n. is_in self n ≡ true) }
+    {
+        if self.as_type {
+            Some(Namespace::Type)
+        } else if self.as_value {
+            Some(Namespace::Value)
+        } else if self.as_macro {
+            Some(Namespace::Macro)
+        } else {
+            None
         }
     }
 }
@@ -98,6 +120,18 @@ fn first_namespace(names: &[Name], namespace: Namespace) -> Namespace {
         Namespace::Type
     } else {
         namespace
+    }
+}
+
+/// What a path begins with in front of its names, where that is what is printed.
+fn front_text(start: Start) -> Option<&'static str>
+    ensures { IfSome result (λ text. front_text start ≡ Some text.now) }
+{
+    match start {
+        Start::Plain => Some(""),
+        Start::Global => Some("::"),
+        Start::Crate => Some("crate::"),
+        _ => None,
     }
 }
 
@@ -207,33 +241,68 @@ impl<'p> Printer<'p> {
         outside: &mut OutsidePaths,
         path: PathQuestion<'_>,
         written: Written,
+    ) -> Result<bool, AllocError>
+        ensures { IfOk result (λ leads. leads ≡ true → Leads self.now.space.now (place_of path.entry) path.entry.names.now written) }
+    {
+        if !self.leads_elsewhere(outside, path, written)? {
+            return Ok(false);
+        }
+        self.leads_at(outside, path, written)
+    }
+
+    /// Whether it does so at each other place where the module is.
+    fn leads_elsewhere(
+        &self,
+        outside: &mut OutsidePaths,
+        path: PathQuestion<'_>,
+        written: Written,
     ) -> Result<bool, AllocError> {
         for copy in self.space.copies(path.module) {
             let there = PathQuestion {
                 module: copy.module,
                 ..path
             };
-            if !self.leads_at(outside, there, written)? {
+            if copy.module != path.module && !self.leads_at(outside, there, written)? {
                 return Ok(false);
             }
         }
         Ok(true)
     }
 
-    /// Whether a path that is written in a module leads to a definition there, in each namespace in which it is written.
+    /// Whether a path that is written in a module leads to a definition there, in each namespace in which it is written. What is
+    /// written in none is reached by no path.
     fn leads_at(
         &self,
         outside: &mut OutsidePaths,
         path: PathQuestion<'_>,
         written: Written,
-    ) -> Result<bool, AllocError> {
-        for namespace in NAMESPACES {
-            let question = PathQuestion { namespace, ..path };
-            if written.is_in(namespace) && !self.leads_in(outside, question, written)? {
-                return Ok(false);
-            }
+    ) -> Result<bool, AllocError>
+        ensures { IfOk result (λ leads. leads ≡ true → Leads self.now.space.now (place_of path.entry) path.entry.names.now written) }
+    {
+        let Some(namespace) = written.somewhere() else {
+            return Ok(false);
+        };
+        let as_type = self.leads_as(outside, path, written, Namespace::Type)?;
+        let as_value = self.leads_as(outside, path, written, Namespace::Value)?;
+        let as_macro = self.leads_as(outside, path, written, Namespace::Macro)?;
+        Ok(as_type && as_value && as_macro)
+    }
+
+    /// Whether a path leads to a definition in a namespace, if it is written in that.
+    fn leads_as(
+        &self,
+        outside: &mut OutsidePaths,
+        path: PathQuestion<'_>,
+        written: Written,
+        namespace: Namespace,
+    ) -> Result<bool, AllocError>
+        ensures { IfOk result (λ leads. leads ≡ true → is_in written namespace ≡ true → WholeStandsFor self.now.space.now (place_of path.entry) namespace path.entry.names.now written.definition) }
+    {
+        if !written.is_in(namespace) {
+            return Ok(true);
         }
-        Ok(true)
+        let question = PathQuestion { namespace, ..path };
+        self.leads_in(outside, question, written.definition)
     }
 
     /// Whether a path leads to a definition in one namespace.
@@ -241,10 +310,15 @@ impl<'p> Printer<'p> {
         &self,
         outside: &mut OutsidePaths,
         path: PathQuestion<'_>,
-        written: Written,
-    ) -> Result<bool, AllocError> {
+        definition: Definition,
+    ) -> Result<bool, AllocError>
+        ensures { IfOk result (λ leads. leads ≡ true → WholeStandsFor self.now.space.now (place_of path.entry) path.entry.namespace path.entry.names.now definition) }
+    {
         let answer = self.space.whole_path(self.alloc, outside, path)?;
-        Ok(answer.meaning == Meaning::One(written.definition) && self.begins_surely(outside, path)?)
+        if !answer.meaning.is(definition) {
+            return Ok(false);
+        }
+        self.begins_surely(outside, path)
     }
 
     /// Whether the first name of a path is there in each configuration, or nothing around has it and it is one that is there
@@ -310,33 +384,55 @@ impl<'p> Printer<'p> {
     fn push_name(
         &self,
         text: &mut String,
-        name: &str,
+        name: Name,
         edition: Option<Edition>,
-    ) -> Result<(), AllocError> {
-        if is_keyword(name, edition) {
+    ) -> Result<(), AllocError>
+        ensures { OnOk result (EndsWithName self.now.space.now.table.now.names name (string_bytes text.old) (string_bytes text.new)) }
+    {
+        let spelled = self.space.text(name);
+        if is_keyword(spelled, edition) {
             text.push_str("r#")?;
         }
-        text.push_str(name)
+        text.push_str(spelled)?;
+        Ok(())
     }
 
-    /// A path as text that is written in a module.
-    fn text(&self, module: ModuleNo, start: Start, names: &[Name]) -> Result<String, AllocError> {
+    /// A path as text that is written in a module: what is in front of its names, the first one, and the others.
+    fn text(
+        &self,
+        module: ModuleNo,
+        front: &str,
+        first: Name,
+        others: &[Name],
+    ) -> Result<String, AllocError>
+        ensures { IfOk result (λ text. EndsWithNames self.now.space.now.table.now.names front.now (first ∷ others.now) (string_bytes text)) }
+    {
         let edition = self.space.edition(module);
-        let mut text = String::from_str(
-            self.alloc,
-            match start {
-                Start::Crate => "crate::",
-                Start::Global => "::",
-                _ => "",
-            },
-        )?;
-        for (place, name) in names.iter().enumerate() {
-            if place > 0 {
-                text.push_str("::")?;
-            }
-            self.push_name(&mut text, self.space.text(*name), edition)?;
+        let mut text = String::from_str(self.alloc, front)?;
+        self.push_name(&mut text, first, edition)?;
+        for name in others {
+            text.push_str("::")?;
+            self.push_name(&mut text, *name, edition)?;
         }
         Ok(text)
+    }
+
+    /// A path as text that is written in a module, if it begins so that it is printed.
+    fn spelled(
+        &self,
+        module: ModuleNo,
+        start: Start,
+        names: &[Name],
+    ) -> Result<Option<String>, AllocError>
+        ensures { IfOk result (λ found. IfSome found (λ text. Spells self.now.space.now.table.now.names start names.now (string_bytes text))) }
+    {
+        let Some(front) = front_text(start) else {
+            return Ok(None);
+        };
+        let Some((first, others)) = names.split_first() else {
+            return Ok(None);
+        };
+        Ok(Some(self.text(module, front, *first, others)?))
     }
 
     /// A path as text, if it leads to the definition where it is written.
@@ -347,7 +443,12 @@ impl<'p> Printer<'p> {
         start: Start,
         names: &[Name],
         written: Written,
-    ) -> Result<Option<String>, AllocError> {
+    ) -> Result<Option<String>, AllocError>
+        ensures { IfOk result (λ found. IfSome found (λ text. IsPathOf self.now.space.now «module» written (string_bytes text))) }
+    {
+        if names.is_empty() {
+            return Ok(None);
+        }
         let path = PathQuestion {
             start,
             names,
@@ -355,10 +456,11 @@ impl<'p> Printer<'p> {
             module,
             import: None,
         };
-        if names.is_empty() || !self.leads(outside, path, written)? {
+        let leads = self.leads(outside, path, written)?;
+        if !leads {
             return Ok(None);
         }
-        Ok(Some(self.text(module, start, names)?))
+        self.spelled(module, start, names)
     }
 
     /// The shortest end of a path that leads to the definition.
@@ -368,7 +470,9 @@ impl<'p> Printer<'p> {
         module: ModuleNo,
         path: &[Name],
         written: Written,
-    ) -> Result<Option<String>, AllocError> {
+    ) -> Result<Option<String>, AllocError>
+        ensures { IfOk result (λ found. IfSome found (λ text. IsPathOf self.now.space.now «module» written (string_bytes text))) }
+    {
         for length in 1..=path.len() {
             let names = last_names(path, length);
             if self.may_be_hidden(module, names, written) {
@@ -403,7 +507,9 @@ impl<'p> Printer<'p> {
         module: ModuleNo,
         whole: &WholePath,
         written: Written,
-    ) -> Result<Option<String>, AllocError> {
+    ) -> Result<Option<String>, AllocError>
+        ensures { IfOk result (λ found. IfSome found (λ text. IsPathOf self.now.space.now «module» written (string_bytes text))) }
+    {
         let names = self.with_crate(whole)?;
         let text = self.text_if_leads(outside, module, Start::Plain, &names, written)?;
         if text.is_some() {
@@ -423,7 +529,9 @@ impl<'p> Printer<'p> {
         module: ModuleNo,
         names: &[Name],
         written: Written,
-    ) -> Result<Option<String>, AllocError> {
+    ) -> Result<Option<String>, AllocError>
+        ensures { IfOk result (λ found. IfSome found (λ text. IsPathOf self.now.space.now «module» written (string_bytes text))) }
+    {
         let mut changed = Vec::from_slice(self.alloc, names)?;
         let Some(first) = changed.get_mut(0) else {
             return Ok(None);
@@ -443,7 +551,9 @@ impl<'p> Printer<'p> {
         module: ModuleNo,
         whole: &WholePath,
         written: Written,
-    ) -> Result<Option<String>, AllocError> {
+    ) -> Result<Option<String>, AllocError>
+        ensures { IfOk result (λ found. IfSome found (λ text. IsPathOf self.now.space.now «module» written (string_bytes text))) }
+    {
         if whole.root.is_some() {
             let names = whole.names.as_slice();
             let text = self.text_if_leads(outside, module, Start::Crate, names, written)?;
@@ -461,7 +571,9 @@ impl<'p> Printer<'p> {
         outside: &mut OutsidePaths,
         module: ModuleNo,
         template: &Template,
-    ) -> Result<Option<String>, AllocError> {
+    ) -> Result<Option<String>, AllocError>
+        ensures { IfOk result (λ found. IfSome found (λ text. IsPathOf self.now.space.now «module» template.now.written (string_bytes text))) }
+    {
         if !self.space.has_all_copies(module) {
             return Ok(None);
         }
@@ -490,7 +602,9 @@ impl<'p> Printer<'p> {
         outside: &mut OutsidePaths,
         module: ModuleNo,
         template: &Template,
-    ) -> Result<Option<String>, AllocError> {
+    ) -> Result<Option<String>, AllocError>
+        ensures { IfOk result (λ found. IfSome found (λ text. IsPathOf self.now.space.now «module» template.now.written (string_bytes text))) }
+    {
         for way in &template.ways {
             if let Some(mut path) = self.module_path(way.module)? {
                 path.names.push(way.name)?;

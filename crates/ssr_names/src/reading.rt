@@ -1,5 +1,5 @@
 //! The provider of a run, read of its sources.
-ghost use Rattle.std.specs.Prelude.{◌≡◌, List, [], Some, None, IfOk, IfSome, OnOk, All, codes};
+ghost use Rattle.std.specs.Prelude.{◌≡◌, List, [], Some, None, IfOk, IfSome, OnOk, All, codes, string_bytes};
 ghost use Rattle.ssr_names_items.specs.Names.{number_of};
 ghost use Rattle.std.specs.BTreeMap.{insert_entry};
 ghost use Rattle.ssr_base_trees.specs.contracts.ids.NodeIdOrd.TheImpl as id_order;
@@ -7,8 +7,10 @@ ghost use Rattle.ssr_base_trees.specs.Built.{IsBuilt};
 ghost use Rattle.ssr_base_trees.specs.Workspace.{PlacedTree, trees as placed};
 ghost use Rattle.ssr_names.specs.Locals.{TellsNoLocal};
 ghost use Rattle.ssr_names.specs.Declarations.{Declares, HasMembers, IsOfTable};
+ghost use Rattle.ssr_names.specs.Printed.{Reaches};
 ghost use Rattle.ssr_names.specs.Told.{IsReady, TellsWhatStands};
 ghost use Rattle.ssr_names.specs.Private.Locals.{CollectsAll, HasNoLocal, IsRight};
+ghost use Rattle.ssr_names.specs.Private.Printed.{AreReached, IsPrintedMore};
 ghost use Rattle.ssr_names.specs.Private.Rows.{AreKnown, IsAdded, TellsRow};
 ghost use Rattle.ssr_names.specs.declared.scopes.TreeScopes.{TreeScopes};
 ghost use Rattle.ssr_names_items.specs.declared.table.Name.{Name};
@@ -19,7 +21,7 @@ use crate::locals::Locals;
 use crate::no_std::roots_without_std;
 use crate::outside::OutsidePaths;
 use crate::preparing::add_std_names;
-use crate::printed::Printer;
+use crate::printed::{Printer, Template};
 use crate::provider::{Names, PrintedKey, Undecided};
 use crate::resolving::{BoundIn, ImplType, Resolver, Row, by_nodes};
 use crate::rule_paths::{RulePath, add_names};
@@ -265,19 +267,64 @@ fn add_calls(
     Ok(())
 }
 
-/// The paths by which a module reaches what is written.
+/// The path by which a scope reaches what is written, where that is the definition of its number.
+fn reached(
+    printer: &Printer<'_>,
+    outside: &mut OutsidePaths,
+    wanted: &Wanted,
+    key: PrintedKey,
+    template: &Template,
+) -> Result<Option<String>, AllocError>
+    ensures { IfOk result (λ found. IfSome found (λ text. Reaches printer.now.space.now wanted.now.definitions.items key.scope key.def (string_bytes text))) }
+{
+    if !wanted.is_numbered(key.def, template.written.definition) {
+        return Ok(None);
+    }
+    printer.path_from(outside, ModuleNo(key.scope.0), template)
+}
+
+/// Adds the path by which a scope reaches a definition.
+fn add_text(
+    printed: &mut BTreeMap<PrintedKey, String>,
+    key: PrintedKey,
+    text: String,
+) -> Result<(), AllocError>
+    ensures { OnOk result (IsPrintedMore printed.old printed.new key text) }
+{
+    printed.insert(key, text)?;
+    Ok(())
+}
+
+/// Adds the path by which a scope reaches what is written, if it does.
+fn add_reached(
+    printer: &Printer<'_>,
+    outside: &mut OutsidePaths,
+    wanted: &Wanted,
+    key: PrintedKey,
+    template: &Template,
+    printed: &mut BTreeMap<PrintedKey, String>,
+) -> Result<(), AllocError>
+    ensures { AreReached printer.now.space.now wanted.now.definitions.items printed.old → OnOk result (AreReached printer.now.space.now wanted.now.definitions.items printed.new) }
+{
+    let Some(text) = reached(printer, outside, wanted, key, template)? else {
+        return Ok(());
+    };
+    add_text(printed, key, text)
+}
+
+/// Adds the paths by which a module reaches what is written.
 fn add_printed(
     printer: &Printer<'_>,
     outside: &mut OutsidePaths,
     wanted: &Wanted,
     scope: ScopeId,
     printed: &mut BTreeMap<PrintedKey, String>,
-) -> Result<(), AllocError> {
+) -> Result<(), AllocError>
+    ensures { AreReached printer.now.space.now wanted.now.definitions.items printed.old → OnOk result (AreReached printer.now.space.now wanted.now.definitions.items printed.new) }
+{
     for (def, template) in wanted.written.iter() {
         let key = PrintedKey { scope, def: *def };
-        if let Some(text) = printer.path_from(outside, ModuleNo(scope.0), template)? {
-            printed.insert(key, text)?;
-        }
+        add_reached(printer, outside, wanted, key, template, printed)?;
     }
     Ok(())
 }
@@ -287,7 +334,9 @@ fn all_printed(
     printer: &Printer<'_>,
     outside: &mut OutsidePaths,
     wanted: &Wanted,
-) -> Result<BTreeMap<PrintedKey, String>, AllocError> {
+) -> Result<BTreeMap<PrintedKey, String>, AllocError>
+    ensures { IfOk result (λ printed. AreReached printer.now.space.now wanted.now.definitions.items printed) }
+{
     let mut printed = BTreeMap::new(printer.alloc);
     if wanted.written.is_empty() {
         return Ok(printed);
@@ -367,6 +416,7 @@ fn names_of(
     ensures local { (trees : List PlacedTree) → HasNoLocal trees rows.known.entries → TellsNoLocal trees result }
     ensures known { result.known ≡ rows.known }
     ensures scopes { result.scopes ≡ scopes }
+    ensures printed { result.printed ≡ printed }
 {
     let Wanted {
         lookups,

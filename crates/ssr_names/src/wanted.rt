@@ -1,6 +1,6 @@
 //! What the paths of rules stand for, and under which names the code may have it.
 
-ghost use Rattle.std.specs.Prelude.{◌≡◌, Some, IfSome, slice_get};
+ghost use Rattle.std.specs.Prelude.{◌≡◌, true, Some, IfSome, slice_get};
 
 use crate::definitions::{Definition, Meaning};
 use crate::outside::OutsidePaths;
@@ -104,6 +104,16 @@ impl Wanted {
         ensures { result ≡ slice_get self.now.definitions.items number.0 }
     {
         self.definitions.get(number.0 as usize).copied()
+    }
+
+    /// Whether a number is that of a definition.
+    pub(crate) fn is_numbered(&self, number: DefId, definition: Definition) -> bool
+        ensures { result ≡ true → slice_get self.now.definitions.items number.0 ≡ Some definition }
+    {
+        match self.definition_at(number) {
+            Some(held) => held.is(definition),
+            None => false,
+        }
     }
 
     /// What a path with this last name is taken to stand for where that isn't known.
