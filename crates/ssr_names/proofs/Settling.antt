@@ -11,10 +11,11 @@ use Rattle.ssr_names.specs.declared.definitions.Meaning.TheVariants as meaning
 use Rattle.ssr_names.specs.Lookup.{in_namespace}
 use Rattle.ssr_names.proofs.LookingUp.{all_at}
 use Rattle.ssr_names_items.specs.declared.table.Import.{Import}
+use Rattle.ssr_names.specs.declared.imports.LookedUp.{LookedUp}
 use Rattle.ssr_names.specs.declared.space.Answers.{Answers}
 use Rattle.ssr_names.specs.declared.space.Space.{Space}
 use Rattle.ssr_names.specs.Settled.{AreAnswers, IsSettled, IsSettledAt, import_no}
-use Rattle.ssr_names.specs.Private.Settling.{IsAnswered, KeepsTaken, turned, with_answers_of}
+use Rattle.ssr_names.specs.Private.Settling.{IsAnswered, IsLookedUp, KeepsTaken, turned, with_answers_of}
 
 -- each place is gone to at some step
 pub all_turned : (P : ℕ → Type 0) (backward : Bool) (count place : ℕ) → place < count → ((step : ℕ) → step < count → P (turned backward count step)) → P place
@@ -34,6 +35,10 @@ settled_found space place import had found at held are keeps row answers row_at 
     let same_answers : had ≡ answers = same_Some had answers (sym held ∙ answers_at) in
     subst (λ (r : Import). AreAnswers space (import_no place) r found) same_row are n d
     (subst (λ (a : Answers). KeepsTaken found a) same_answers keeps n d is)
+
+-- what was looked up is settled, where it is taken for no more than was found
+pub settled_looked_up : (space : Space) (place : ℕ) (at : LookedUp) → IsLookedUp space place at → KeepsTaken at.found at.had → IsSettledAt space place
+settled_looked_up space place at is keeps = settled_found space place is.row at.had at.found is.is is.held is.answers keeps
 
 -- a place below the next one is below this one, or this one
 below_next : (s n : ℕ) → s < n + 1 → (s < n) ⊎ (s ≡ n)

@@ -1,13 +1,13 @@
 //! What the paths of imports stand for.
 
-ghost use Rattle.std.specs.Prelude.{ℕ, ◌≡◌, ◌+◌, ◌<◌, true, false, Some, IfOk, OnOk, slice_get};
+ghost use Rattle.std.specs.Prelude.{ℕ, ◌≡◌, ◌+◌, ◌<◌, true, false, Some, IfNone, IfOk, IfSome, OnOk, slice_get};
 ghost use Rattle.std.specs.Option.{option_copied};
 ghost use Rattle.ssr_names.specs.declared.space.Answers.{Answers};
 ghost use Rattle.ssr_names.specs.Private.Meanings.{Means};
 ghost use Rattle.ssr_names.specs.Lookup.{PathStandsFor};
 ghost use Rattle.ssr_names.specs.Private.Answered.{IsFrontOf, place_of};
 ghost use Rattle.ssr_names.specs.Settled.{AreAnswers, IsSettled, IsSettledAt, import_no};
-ghost use Rattle.ssr_names.specs.Private.Settling.{IsAnswered, KeepsTaken, turned};
+ghost use Rattle.ssr_names.specs.Private.Settling.{IsAnswered, IsLookedUp, KeepsTaken, turned};
 
 use crate::definitions::Meaning;
 use crate::lookup::{Front, PathQuestion};
@@ -115,6 +115,34 @@ fn set(space: &mut Space<'_>, place: usize, answers: Answers) -> bool
     true
 }
 
+/// What an import is taken to stand for, and what its path is found to stand for.
+#[derive(Clone, Copy, Debug)]
+struct LookedUp {
+    had: Answers,
+    found: Answers,
+}
+
+/// Looks up the path of the import at a place, if there is one.
+fn looked_up(
+    alloc: Global,
+    space: &Space<'_>,
+    outside: &mut OutsidePaths,
+    place: usize,
+) -> Result<Option<LookedUp>, AllocError>
+    ensures found { IfOk result (λ at. IfSome at (IsLookedUp space.now place)) }
+    ensures none { IfOk result (λ at. IfNone at (IsSettledAt space.now place)) }
+{
+    let table = space.table;
+    let Some(import) = import_in(table, place) else {
+        return Ok(None);
+    };
+    let Some(had) = answers_at(space, place) else {
+        return Ok(None);
+    };
+    let found = answers_of(alloc, space, outside, import_no(place), import)?;
+    Ok(Some(LookedUp { had, found }))
+}
+
 /// Finds what an import stands for; whether that is something else than before.
 fn renew(
     alloc: Global,
@@ -125,15 +153,10 @@ fn renew(
     ensures answered { OnOk result (IsAnswered space.old space.new) }
     ensures settled { IfOk result (λ is_new. is_new ≡ false → (space.new ≡ space.old) × IsSettledAt space.old place) }
 {
-    let table = space.table;
-    let Some(import) = import_in(table, place) else {
-        return Ok(false);
-    };
-    let Some(had) = answers_at(space, place) else {
-        return Ok(false);
-    };
-    let found = answers_of(alloc, space, outside, import_no(place), import)?;
-    Ok(set(space, place, kept(had, found)))
+    match looked_up(alloc, space, outside, place)? {
+        Some(LookedUp { had, found }) => Ok(set(space, place, kept(had, found))),
+        None => Ok(false),
+    }
 }
 
 /// Goes over all imports once, in order or from the last one on; whether some stands for something else than before.
@@ -189,18 +212,12 @@ fn doubt(
     ensures answered { OnOk result (IsAnswered space.old space.new) }
     ensures settled { IfOk result (λ is_new. is_new ≡ false → (space.new ≡ space.old) × IsSettledAt space.old place) }
 {
-    let table = space.table;
-    let Some(import) = import_in(table, place) else {
-        return Ok(false);
-    };
-    let Some(had) = answers_at(space, place) else {
-        return Ok(false);
-    };
-    let found = answers_of(alloc, space, outside, import_no(place), import)?;
-    if had.same(found) {
-        return Ok(false);
+    match looked_up(alloc, space, outside, place)? {
+        Some(LookedUp { had, found }) if !had.same(found) => {
+            Ok(set(space, place, Answers::all(Meaning::Unknown)))
+        }
+        _ => Ok(false),
     }
-    Ok(set(space, place, Answers::all(Meaning::Unknown)))
 }
 
 /// Takes each import as unknown that isn't what its path stands for; whether there is one.

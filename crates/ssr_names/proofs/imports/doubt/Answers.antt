@@ -1,19 +1,26 @@
 use Rattle.std.proofs.Common.{refl, sym, subst}
-use Rattle.ssr_names_items.specs.declared.table.ImportNo.{ImportNo}
+use Rattle.std.specs.Prelude.{IfNone, IfSome}
 use Rattle.ssr_names.specs.declared.space.Answers.{Answers}
-use Rattle.ssr_names.specs.Settled.{AreAnswers}
-use Rattle.ssr_names.specs.Private.Settling.{KeepsTaken}
-use Rattle.ssr_names.proofs.Settling.{settled_found}
+use Rattle.ssr_names.specs.Settled.{IsSettledAt}
+use Rattle.ssr_names.specs.Private.Settling.{IsLookedUp, KeepsTaken}
+use Rattle.ssr_names.proofs.Settling.{settled_looked_up}
 use Rattle.ssr_names.proofs.imports.doubt.Goals as goal
 
-pub returns-then-same-clause-settled : goal.returns-then-same-clause-settled
-returns-then-same-clause-settled c = λ _.
+-- what its path stands for is what it is taken for
+pub returns-in_default-clause-settled : goal.returns-in_default-clause-settled
+returns-in_default-clause-settled c = λ _.
     let space = c.args.space.now in
-    let row = c.in-Some.import.now in
-    let had = c.in-Some-answers_at.had in
-    let found = c.in_ok-found.found in (
+    let at = c.in-Some.field-0 in
+    let is : IsLookedUp space c.args.place at =
+    subst (λ o. IfSome o (IsLookedUp space c.args.place)) c.in-Some.is c.in_ok-had.ensures.found in (
       refl,
-      settled_found space c.args.place row had found (sym c.in-Some.ensures) (sym c.in-Some-answers_at.ensures)
-          (subst (λ (i : ImportNo). AreAnswers space i row found) c.import_no.ensures c.in_ok-found.ensures)
-          (subst (λ (a : Answers). KeepsTaken found a) (sym (c.same.ensures c.if-same.true)) (λ n d is. is)),
+      settled_looked_up space c.args.place at is
+          (subst (λ (a : Answers). KeepsTaken at.found a) (sym (c.same.ensures c.if-not-same.false)) (λ n d taken. taken)),
     )
+
+-- there is no import
+pub returns-in_default-2-clause-settled : goal.returns-in_default-2-clause-settled
+returns-in_default-2-clause-settled c = λ _. (
+  refl,
+  subst (λ o. IfNone o (IsSettledAt c.args.space.now c.args.place)) c.in_default.is c.in_ok-had.ensures.none,
+)

@@ -1,20 +1,24 @@
-use Rattle.std.proofs.Common.{sym, subst}
-use Rattle.ssr_names_items.specs.declared.table.ImportNo.{ImportNo}
+use Rattle.std.proofs.Common.{refl, sym, subst}
+use Rattle.std.specs.Prelude.{IfNone, IfSome}
 use Rattle.ssr_names.specs.declared.space.Answers.{Answers}
-use Rattle.ssr_names.specs.Settled.{AreAnswers}
-use Rattle.ssr_names.specs.Private.Settling.{KeepsTaken}
-use Rattle.ssr_names.proofs.Settling.{settled_found}
+use Rattle.ssr_names.specs.Settled.{IsSettledAt}
+use Rattle.ssr_names.specs.Private.Settling.{IsLookedUp, KeepsTaken}
+use Rattle.ssr_names.proofs.Settling.{settled_looked_up}
 use Rattle.ssr_names.proofs.imports.renew.Goals as goal
 
-pub returns-clause-settled : goal.returns-clause-settled
-returns-clause-settled c = λ same.
+pub returns-in-Some-clause-settled : goal.returns-in-Some-clause-settled
+returns-in-Some-clause-settled c = λ same.
     let space = c.args.space.now in
-    let row = c.in-Some.import.now in
-    let had = c.in-Some-answers_at.had in
-    let found = c.in_ok-found.found in
-    let held = sym c.in-Some-answers_at.ensures in (
+    let at = c.in-Some.field-0 in
+    let is : IsLookedUp space c.args.place at =
+    subst (λ o. IfSome o (IsLookedUp space c.args.place)) c.in-Some.is c.in_ok-had.ensures.found in (
       c.set.ensures.same same,
-      settled_found space c.args.place row had found (sym c.in-Some.ensures) held
-          (subst (λ (i : ImportNo). AreAnswers space i row found) c.import_no.ensures c.in_ok-found.ensures)
-          (subst (λ (a : Answers). KeepsTaken found a) (sym (c.set.ensures.held same had held)) c.kept.ensures),
+      settled_looked_up space c.args.place at is
+          (subst (λ (a : Answers). KeepsTaken at.found a) (sym (c.set.ensures.held same at.had is.held)) c.kept.ensures),
     )
+
+pub returns-in-None-clause-settled : goal.returns-in-None-clause-settled
+returns-in-None-clause-settled c = λ _. (
+  refl,
+  subst (λ o. IfNone o (IsSettledAt c.args.space.now c.args.place)) c.in-None.is c.in_ok-had.ensures.none,
+)
