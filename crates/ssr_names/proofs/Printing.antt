@@ -23,28 +23,16 @@ use Rattle.ssr_names.specs.declared.provider.Names.{Names}
 use Rattle.ssr_names.specs.declared.provider.PrintedKey.{PrintedKey}
 use Rattle.ssr_names.specs.declared.space.Space.{Space}
 use Rattle.ssr_names.specs.Lookup.{Place}
-use Rattle.ssr_names.specs.Printed.{EndsWithName, EndsWithNames, LeadsTo, PathsLead, Reaches, Spells, ends_with_more, front_text}
+use Rattle.ssr_names.specs.Printed.{EndsWithName, EndsWithNames, LeadsFrom, LeadsTo, PathsLead, Spells, ends_with_more, front_text}
 use Rattle.ssr_names.specs.Provider.{told}
 use Rattle.ssr_names.specs.WholePaths.{WholeStandsFor}
 use Rattle.ssr_names.proofs.Following.{name_more}
-use Rattle.ssr_names.specs.Private.Printed.{AreReached, IsPathOf, IsPrintedMore, Leads, is_in}
+use Rattle.ssr_names.specs.Private.Printed.{AllLead, IsPathOf, IsPrintedMore, Leads, is_in}
 
 -- ** Where a path leads.
 
--- what holds in each of the three namespaces holds in all
-pub leads_in_all : (space : Space) (place : Place) (names : List Name) (written : Written) (n : Namespace) → is_in written n ≡ true
-    → (is_in written ns.Type ≡ true → WholeStandsFor space place ns.Type names written.definition)
-    → (is_in written ns.Value ≡ true → WholeStandsFor space place ns.Value names written.definition)
-    → (is_in written ns.Macro ≡ true → WholeStandsFor space place ns.Macro names written.definition) → Leads space place names written
-leads_in_all space place names written n among as_type as_value as_macro = record { namespace = n; among = among; each = each }
-  where
-    each : (k : Namespace) → is_in written k ≡ true → WholeStandsFor space place k names written.definition
-    each ns.Type is = as_type is
-    each ns.Value is = as_value is
-    each ns.Macro is = as_macro is
-
 -- a path that leads to what is written in each of its namespaces leads there in one
-pub leads_to : (space : Space) (m : ModuleNo) (written : Written) (text : List ℕ) → IsPathOf space m written text → LeadsTo space m text written.definition
+leads_to : (space : Space) (m : ModuleNo) (written : Written) (text : List ℕ) → IsPathOf space m written text → LeadsTo space m text written.definition
 leads_to space m written text is = record {
   start = is.start;
   names = is.names;
@@ -101,29 +89,29 @@ added_at old new key text updates other told is = from (is_at ((printed_order.gh
     )
 
 module _ (space : Space) (definitions : List Definition) where
-  pub reaches_by : (scope : ScopeId) (number : DefId) (written : Written) (text : List ℕ) → slice_get definitions number.0 ≡ Some written.definition
-      → IsPathOf space (record { 0 = scope.0 }) written text → Reaches space definitions scope number text
-  reaches_by scope number written text numbered is =
+  pub leads_by : (scope : ScopeId) (number : DefId) (written : Written) (text : List ℕ) → slice_get definitions number.0 ≡ Some written.definition
+      → IsPathOf space (record { 0 = scope.0 }) written text → LeadsFrom space definitions scope number text
+  leads_by scope number written text numbered is =
       record { definition = written.definition; numbered = numbered; leads = leads_to space (record { 0 = scope.0 }) written text is }
 
-  pub none_reached : (printed : BTreeMap PrintedKey (String Global)) → printed.entries ≡ [] → AreReached space definitions printed
-  none_reached printed empty key text is =
+  pub none_lead : (printed : BTreeMap PrintedKey (String Global)) → printed.entries ≡ [] → AllLead space definitions printed
+  none_lead printed empty key text is =
       absurd (none-some text (sym (ap (λ (rows : List (PrintedKey × String Global)). lookup (is_at ((printed_order.ghosts).cmp key)) rows) empty) ∙ is))
 
-  pub reached_more : (old new : BTreeMap PrintedKey (String Global)) (added : PrintedKey) (text : String Global) → IsPrintedMore old new added text
-      → Reaches space definitions added.scope added.def (string_bytes text) → AreReached space definitions old → AreReached space definitions new
-  reached_more old new added text more here all key told is =
+  pub lead_more : (old new : BTreeMap PrintedKey (String Global)) (added : PrintedKey) (text : String Global) → IsPrintedMore old new added text
+      → LeadsFrom space definitions added.scope added.def (string_bytes text) → AllLead space definitions old → AllLead space definitions new
+  lead_more old new added text more here all key told is =
       elim (more key told is) [
         | inl had ↦ all key told had
-        | inr one ↦ subst (λ (k : PrintedKey). Reaches space definitions k.scope k.def (string_bytes told)) (sym one.0)
-            (subst (λ (t : String Global). Reaches space definitions added.scope added.def (string_bytes t)) (sym one.1) here)
+        | inr one ↦ subst (λ (k : PrintedKey). LeadsFrom space definitions k.scope k.def (string_bytes told)) (sym one.0)
+            (subst (λ (t : String Global). LeadsFrom space definitions added.scope added.def (string_bytes t)) (sym one.1) here)
       ]
 
   -- what rows have, the provider by these rows tells
-  pub paths_lead : (names : Names) → AreReached space definitions names.printed → PathsLead space definitions (told names)
+  pub paths_lead : (names : Names) → AllLead space definitions names.printed → PathsLead space definitions (told names)
   paths_lead names all scope number text is = from (get ((printed_order.ghosts).cmp) names.printed (record { scope = scope; def = number })) refl is
     where
       from : (o : Option (String Global)) → get ((printed_order.ghosts).cmp) names.printed (record { scope = scope; def = number }) ≡ o → option_map string_bytes o ≡ Some text
-          → Reaches space definitions scope number text
+          → LeadsFrom space definitions scope number text
       from None held none = absurd (none-some text none)
-      from (Some t) held one = subst (Reaches space definitions scope number) (same_Some (string_bytes t) text one) (all (record { scope = scope; def = number }) t held)
+      from (Some t) held one = subst (LeadsFrom space definitions scope number) (same_Some (string_bytes t) text one) (all (record { scope = scope; def = number }) t held)

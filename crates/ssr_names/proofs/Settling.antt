@@ -28,7 +28,7 @@ settled_within space count is all place row answers at held =
     all place (let within = slice_get_within space.answers.items place answers held in omega arith) row answers at held
 
 -- what was found is what is taken
-pub settled_found : (space : Space) (place : ℕ) (import : Import) (had found : Answers) → slice_get space.table.now.imports.items place ≡ Some import
+settled_found : (space : Space) (place : ℕ) (import : Import) (had found : Answers) → slice_get space.table.now.imports.items place ≡ Some import
     → slice_get space.answers.items place ≡ Some had → AreAnswers space (import_no place) import found → KeepsTaken found had → IsSettledAt space place
 settled_found space place import had found at held are keeps row answers row_at answers_at n d is =
     let same_row : import ≡ row = same_Some import row (sym at ∙ row_at) in

@@ -36,7 +36,7 @@ use Rattle.ssr_names.specs.declared.definitions.Meaning.{Meaning}
 use Rattle.ssr_names_items.specs.declared.table.Namespace.TheVariants as ns
 use Rattle.ssr_names_items.specs.declared.table.Namespace.{Namespace}
 use Rattle.ssr_names_items.specs.declared.table.Start.{Start}
-use Rattle.ssr_names.specs.Private.Printed.{AreReached}
+use Rattle.ssr_names.specs.Private.Printed.{AllLead}
 use Rattle.ssr_names.specs.Private.Rows.{AreKnown, IsAdded, TellsRow}
 use Rattle.ssr_names.specs.Private.Scopes.{scope_in}
 
@@ -116,7 +116,7 @@ still_declares old mid names had keeps = record {
 pub tells_rows : (table mid final : Table) (ts : List PlacedTree) (names : Names) (space : Space) (stranger : Name) (definitions : List Definition) (scopes : List TreeScopes) (known : BTreeMap NodeId Res)
     (printed : BTreeMap PrintedKey (String Global)) → Declares table mid → Declares mid final → space.table.now ≡ final → number_of final.names (codes "?") ≡ Some stranger → IsReady space
     → names.scopes.trees.items ≡ scopes → names.known ≡ known → AreKnown space stranger scopes ts definitions known
-    → names.printed ≡ printed → AreReached space definitions printed → TellsWhatStands table ts names
+    → names.printed ≡ printed → AllLead space definitions printed → TellsWhatStands table ts names
 tells_rows table mid final ts names space stranger definitions scopes known printed first then held unknown ready scopes_are known_are are printed_are lead = record {
   space = space;
   stranger = stranger;
@@ -126,7 +126,7 @@ tells_rows table mid final ts names space stranger definitions scopes known prin
   ready = ready;
   stands = subst (λ (k : BTreeMap NodeId Res). AreKnown space stranger names.scopes.trees.items ts definitions k) (sym known_are)
       (subst (λ (s : List TreeScopes). AreKnown space stranger s ts definitions known) (sym scopes_are) are);
-  printed = paths_lead space definitions names (subst (AreReached space definitions) (sym printed_are) lead);
+  printed = paths_lead space definitions names (subst (AllLead space definitions) (sym printed_are) lead);
 }
 
 -- a row of a path tells what that stands for in the module of its scope

@@ -1,5 +1,5 @@
--- What is told as the path by which a scope reaches a definition.
-use Rattle.std.specs.Prelude.{ℕ, ◌≡◌, ◌⊎◌, List, [], ◌∷◌, ◌++◌, Option, Some, None, codes, slice_get}
+-- Which texts are paths that lead from a scope to a definition.
+use Rattle.std.specs.Prelude.{ℕ, ◌≡◌, ◌||◌, Bool, false, List, [], ◌∷◌, ◌++◌, Option, Some, None, bytes_eq, codes, slice_get}
 use Rattle.ssr_base_trees.specs.declared.ids.ScopeId.{ScopeId}
 use Rattle.ssr_base_trees.specs.declared.ids.DefId.{DefId}
 use Rattle.ssr_base_trees.specs.Meanings.{Meanings}
@@ -9,22 +9,30 @@ use Rattle.ssr_names_items.specs.declared.table.ModuleNo.{ModuleNo}
 use Rattle.ssr_names_items.specs.declared.table.Namespace.{Namespace}
 use Rattle.ssr_names_items.specs.declared.table.Start.{Start}
 use Rattle.ssr_names_items.specs.declared.table.Start.TheVariants as starts
-use Rattle.ssr_names_items.specs.Names.{text_of}
+use Rattle.ssr_names_items.specs.Names.{bare, number_of}
 use Rattle.ssr_names.specs.declared.definitions.Definition.{Definition}
 use Rattle.ssr_names.specs.declared.space.Space.{Space}
-use Rattle.ssr_names.specs.Lookup.{Place}
 use Rattle.ssr_names.specs.WholePaths.{WholeStandsFor}
 
--- what a path begins with in front of its names
+-- what a path begins with in front of its names; none for `self` and `super`, which are never printed
 abbrev pub front_text : Start → Option (List ℕ)
 front_text starts.Plain = Some []
 front_text starts.Global = Some (codes "::")
 front_text starts.Crate = Some (codes "crate::")
 front_text start = None
 
--- a name stands behind a text, as it is or with `r#` in front
+-- a word that a path begins with, or no text: no name of a path is spelled so
+abbrev pub is_path_word : List ℕ → Bool
+is_path_word text = bytes_eq text [] || (bytes_eq text (codes "crate") || (bytes_eq text (codes "self") || bytes_eq text (codes "super")))
+
+-- a text is read as a name, with `r#` in front or without
+pub record IsSpelled (numbers : Numbers) (name : Name) (text : List ℕ) : Type 0 where
+  pub read : number_of numbers text ≡ Some name
+  pub plain : is_path_word (bare text) ≡ false
+
+-- a name stands behind a text
 abbrev pub EndsWithName : Numbers → Name → List ℕ → List ℕ → Type 0
-EndsWithName numbers name before text = (text ≡ before ++ text_of numbers name) ⊎ (text ≡ (before ++ codes "r#") ++ text_of numbers name)
+EndsWithName numbers name before text = (spelled : List ℕ) × IsSpelled numbers name spelled × (text ≡ before ++ spelled)
 
 -- names stand behind a text, with `::` between
 pub data EndsWithNames (numbers : Numbers) (front : List ℕ) : List Name → List ℕ → Type 0 where
@@ -47,7 +55,7 @@ pub record LeadsTo (space : Space) (m : ModuleNo) (text : List ℕ) (d : Definit
   pub stands : WholeStandsFor space (record { start = start; within = m; import = None }) namespace names d
 
 -- a text leads from a scope to the definition of a number
-pub record Reaches (space : Space) (definitions : List Definition) (scope : ScopeId) (number : DefId) (text : List ℕ) : Type 0 where
+pub record LeadsFrom (space : Space) (definitions : List Definition) (scope : ScopeId) (number : DefId) (text : List ℕ) : Type 0 where
   pub definition : Definition
   pub numbered : slice_get definitions number.0 ≡ Some definition
   pub leads : LeadsTo space (record { 0 = scope.0 }) text definition
@@ -55,4 +63,4 @@ pub record Reaches (space : Space) (definitions : List Definition) (scope : Scop
 -- each text that is told as the path by which a scope reaches a definition leads there
 abbrev pub PathsLead : Space → List Definition → Meanings → Type 0
 PathsLead space definitions meanings = (scope : ScopeId) (number : DefId) (text : List ℕ) → meanings.path_from scope number ≡ Some text
-    → Reaches space definitions scope number text
+    → LeadsFrom space definitions scope number text

@@ -1,4 +1,4 @@
--- What the sources say of each path of the code that is told to stand for something.
+-- What the sources say of each path of the code that is told to stand for something, and of each path that is printed.
 use Rattle.std.specs.Prelude.{ℕ, ◌≡◌, ◌⊎◌, Bool, true, false, nat_lt, List, [], Option, Some, None, bytes_eq, codes, slice_get, if◌then◌else◌}
 use Rattle.std.specs.Option.{option_map_or}
 use Rattle.ssr_syntax_kinds.specs.declared.kinds.SyntaxKind.{SyntaxKind}
@@ -87,8 +87,8 @@ pub record IsReady (space : Space) : Type 0 where
   pub later : IsLater first space
   pub settled : IsSettled first
 
--- Each path that is told to stand for a thing stands for the definition of that number, by the names of the table and by what
--- each import stands for.
+-- Each path that is told to stand for a thing stands for the definition of that number, and each path that is printed leads to
+-- the one of its number, by the names of the table and by what each import stands for.
 pub record TellsWhatStands (table : Table) (trees : List PlacedTree) (names : Names) : Type 0 where
   -- what the paths of the code are looked up in
   pub space : Space

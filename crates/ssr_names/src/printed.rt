@@ -1,17 +1,18 @@
 //! By which path a scope reaches a definition.
 ghost use Rattle.std.specs.Prelude.{◌≡◌, ◌∷◌, true, Some, IfOk, IfSome, OnOk, string_bytes};
-ghost use Rattle.ssr_names.specs.Printed.{EndsWithName, EndsWithNames, Spells, front_text};
+ghost use Rattle.ssr_names_items.specs.Names.{number_of};
+ghost use Rattle.ssr_names.specs.Printed.{EndsWithName, EndsWithNames, IsSpelled, Spells, front_text, is_path_word};
 ghost use Rattle.ssr_names.specs.WholePaths.{WholeStandsFor};
 ghost use Rattle.ssr_names.specs.Private.Answered.{place_of};
 ghost use Rattle.ssr_names.specs.Private.Printed.{IsPathOf, Leads, is_in};
 
-use crate::definitions::{Definition, Meaning, OutsideNo};
+use crate::definitions::{Definition, OutsideNo};
 use crate::lookup::{PathQuestion, Question};
 use crate::outside::OutsidePaths;
 use crate::resolving::BoundIn;
 use crate::space::Space;
 use crate::std_names::{is_keyword, is_of_alloc, is_young};
-use ssr_names_items::{Edition, ItemNo, ModuleKind, ModuleNo, Name, Namespace, Owner, Start};
+use ssr_names_items::{Edition, ItemNo, ModuleKind, ModuleNo, Name, Namespace, Owner, Start, bare};
 use std::alloc::{AllocError, Global};
 
 /// How many names the path of a definition has at most.
@@ -131,8 +132,15 @@ fn front_text(start: Start) -> Option<&'static str>
         Start::Plain => Some(""),
         Start::Global => Some("::"),
         Start::Crate => Some("crate::"),
-        _ => None,
+        Start::SelfModule | Start::Super(_) => None,
     }
+}
+
+/// Whether a text is a word that a path begins with, or none. No name of a path is spelled so.
+fn is_path_word(text: &str) -> bool
+    ensures { result ≡ is_path_word text.now }
+{
+    text == "" || text == "crate" || text == "self" || text == "super"
 }
 
 /// The last names of a path, so many.
@@ -250,7 +258,7 @@ impl<'p> Printer<'p> {
         self.leads_at(outside, path, written)
     }
 
-    /// Whether it does so at each other place where the module is.
+    /// Whether a path leads to a definition at each other place where the module is.
     fn leads_elsewhere(
         &self,
         outside: &mut OutsidePaths,
@@ -279,7 +287,7 @@ impl<'p> Printer<'p> {
     ) -> Result<bool, AllocError>
         ensures { IfOk result (λ leads. leads ≡ true → Leads self.now.space.now (place_of path.entry) path.entry.names.now written) }
     {
-        let Some(namespace) = written.somewhere() else {
+        let Some(_) = written.somewhere() else {
             return Ok(false);
         };
         let as_type = self.leads_as(outside, path, written, Namespace::Type)?;
@@ -380,21 +388,47 @@ impl<'p> Printer<'p> {
         false
     }
 
-    /// Adds a name, with `r#` in front where it is a word of the language.
+    /// The text of a name, with `r#` in front where it is a word of the language; none, where that isn't read as the name.
+    fn spelled_name(
+        &self,
+        name: Name,
+        edition: Option<Edition>,
+    ) -> Result<Option<String>, AllocError>
+        ensures { IfOk result (λ found. IfSome found (λ text. IsSpelled self.now.space.now.table.now.names name (string_bytes text))) }
+    {
+        let text = self.space.text(name);
+        let raw = if is_keyword(text, edition) { "r#" } else { "" };
+        let spelled = format!(in self.alloc; "{raw}{text}")?;
+        if is_path_word(bare(spelled.as_str())) || !self.is_read_as(spelled.as_str(), name) {
+            return Ok(None);
+        }
+        Ok(Some(spelled))
+    }
+
+    /// Whether a text is read as a name.
+    fn is_read_as(&self, text: &str, name: Name) -> bool
+        ensures { result ≡ true → number_of self.now.space.now.table.now.names text.now ≡ Some name }
+    {
+        match self.space.table.names.number(text) {
+            Some(read) => read == name,
+            None => false,
+        }
+    }
+
+    /// Adds a name; whether it is read as such.
     fn push_name(
         &self,
         text: &mut String,
         name: Name,
         edition: Option<Edition>,
-    ) -> Result<(), AllocError>
-        ensures { OnOk result (EndsWithName self.now.space.now.table.now.names name (string_bytes text.old) (string_bytes text.new)) }
+    ) -> Result<bool, AllocError>
+        ensures { IfOk result (λ is_read. is_read ≡ true → EndsWithName self.now.space.now.table.now.names name (string_bytes text.old) (string_bytes text.new)) }
     {
-        let spelled = self.space.text(name);
-        if is_keyword(spelled, edition) {
-            text.push_str("r#")?;
-        }
-        text.push_str(spelled)?;
-        Ok(())
+        let Some(spelled) = self.spelled_name(name, edition)? else {
+            return Ok(false);
+        };
+        text.push_str(spelled.as_str())?;
+        Ok(true)
     }
 
     /// A path as text that is written in a module: what is in front of its names, the first one, and the others.
@@ -404,20 +438,24 @@ impl<'p> Printer<'p> {
         front: &str,
         first: Name,
         others: &[Name],
-    ) -> Result<String, AllocError>
-        ensures { IfOk result (λ text. EndsWithNames self.now.space.now.table.now.names front.now (first ∷ others.now) (string_bytes text)) }
+    ) -> Result<Option<String>, AllocError>
+        ensures { IfOk result (λ found. IfSome found (λ text. EndsWithNames self.now.space.now.table.now.names front.now (first ∷ others.now) (string_bytes text))) }
     {
         let edition = self.space.edition(module);
         let mut text = String::from_str(self.alloc, front)?;
-        self.push_name(&mut text, first, edition)?;
+        if !self.push_name(&mut text, first, edition)? {
+            return Ok(None);
+        }
         for name in others {
             text.push_str("::")?;
-            self.push_name(&mut text, *name, edition)?;
+            if !self.push_name(&mut text, *name, edition)? {
+                return Ok(None);
+            }
         }
-        Ok(text)
+        Ok(Some(text))
     }
 
-    /// A path as text that is written in a module, if it begins so that it is printed.
+    /// A path as text, if it begins so that it is printed.
     fn spelled(
         &self,
         module: ModuleNo,
@@ -432,7 +470,7 @@ impl<'p> Printer<'p> {
         let Some((first, others)) = names.split_first() else {
             return Ok(None);
         };
-        Ok(Some(self.text(module, front, *first, others)?))
+        self.text(module, front, *first, others)
     }
 
     /// A path as text, if it leads to the definition where it is written.

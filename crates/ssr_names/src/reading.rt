@@ -7,10 +7,10 @@ ghost use Rattle.ssr_base_trees.specs.Built.{IsBuilt};
 ghost use Rattle.ssr_base_trees.specs.Workspace.{PlacedTree, trees as placed};
 ghost use Rattle.ssr_names.specs.Locals.{TellsNoLocal};
 ghost use Rattle.ssr_names.specs.Declarations.{Declares, HasMembers, IsOfTable};
-ghost use Rattle.ssr_names.specs.Printed.{Reaches};
+ghost use Rattle.ssr_names.specs.Printed.{LeadsFrom};
 ghost use Rattle.ssr_names.specs.Told.{IsReady, TellsWhatStands};
 ghost use Rattle.ssr_names.specs.Private.Locals.{CollectsAll, HasNoLocal, IsRight};
-ghost use Rattle.ssr_names.specs.Private.Printed.{AreReached, IsPrintedMore};
+ghost use Rattle.ssr_names.specs.Private.Printed.{AllLead, IsPrintedMore};
 ghost use Rattle.ssr_names.specs.Private.Rows.{AreKnown, IsAdded, TellsRow};
 ghost use Rattle.ssr_names.specs.declared.scopes.TreeScopes.{TreeScopes};
 ghost use Rattle.ssr_names_items.specs.declared.table.Name.{Name};
@@ -267,7 +267,8 @@ fn add_calls(
     Ok(())
 }
 
-/// The path by which a scope reaches what is written, where that is the definition of its number.
+/// The path by which a scope reaches what is written, where that is the definition of its number. It always is; that is looked at here,
+/// so that nothing else need say it.
 fn reached(
     printer: &Printer<'_>,
     outside: &mut OutsidePaths,
@@ -275,7 +276,7 @@ fn reached(
     key: PrintedKey,
     template: &Template,
 ) -> Result<Option<String>, AllocError>
-    ensures { IfOk result (λ found. IfSome found (λ text. Reaches printer.now.space.now wanted.now.definitions.items key.scope key.def (string_bytes text))) }
+    ensures { IfOk result (λ found. IfSome found (λ text. LeadsFrom printer.now.space.now wanted.now.definitions.items key.scope key.def (string_bytes text))) }
 {
     if !wanted.is_numbered(key.def, template.written.definition) {
         return Ok(None);
@@ -304,7 +305,7 @@ fn add_reached(
     template: &Template,
     printed: &mut BTreeMap<PrintedKey, String>,
 ) -> Result<(), AllocError>
-    ensures { AreReached printer.now.space.now wanted.now.definitions.items printed.old → OnOk result (AreReached printer.now.space.now wanted.now.definitions.items printed.new) }
+    ensures { AllLead printer.now.space.now wanted.now.definitions.items printed.old → OnOk result (AllLead printer.now.space.now wanted.now.definitions.items printed.new) }
 {
     let Some(text) = reached(printer, outside, wanted, key, template)? else {
         return Ok(());
@@ -320,7 +321,7 @@ fn add_printed(
     scope: ScopeId,
     printed: &mut BTreeMap<PrintedKey, String>,
 ) -> Result<(), AllocError>
-    ensures { AreReached printer.now.space.now wanted.now.definitions.items printed.old → OnOk result (AreReached printer.now.space.now wanted.now.definitions.items printed.new) }
+    ensures { AllLead printer.now.space.now wanted.now.definitions.items printed.old → OnOk result (AllLead printer.now.space.now wanted.now.definitions.items printed.new) }
 {
     for (def, template) in wanted.written.iter() {
         let key = PrintedKey { scope, def: *def };
@@ -335,7 +336,7 @@ fn all_printed(
     outside: &mut OutsidePaths,
     wanted: &Wanted,
 ) -> Result<BTreeMap<PrintedKey, String>, AllocError>
-    ensures { IfOk result (λ printed. AreReached printer.now.space.now wanted.now.definitions.items printed) }
+    ensures { IfOk result (λ printed. AllLead printer.now.space.now wanted.now.definitions.items printed) }
 {
     let mut printed = BTreeMap::new(printer.alloc);
     if wanted.written.is_empty() {

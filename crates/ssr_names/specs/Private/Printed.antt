@@ -13,7 +13,7 @@ use Rattle.ssr_names.specs.declared.printed.Written.{Written}
 use Rattle.ssr_names.specs.declared.provider.PrintedKey.{PrintedKey}
 use Rattle.ssr_names.specs.declared.space.Space.{Space}
 use Rattle.ssr_names.specs.Lookup.{Place}
-use Rattle.ssr_names.specs.Printed.{Reaches, Spells}
+use Rattle.ssr_names.specs.Printed.{LeadsFrom, Spells}
 use Rattle.ssr_names.specs.WholePaths.{WholeStandsFor}
 
 -- a definition is to be written in a namespace
@@ -36,9 +36,9 @@ pub record IsPathOf (space : Space) (m : ModuleNo) (written : Written) (text : L
   pub leads : Leads space (record { start = start; within = m; import = None }) names written
 
 -- the texts of rows lead from their scopes to their definitions
-abbrev pub AreReached : Space → List Definition → BTreeMap PrintedKey (String Global) → Type 0
-AreReached space definitions printed = (key : PrintedKey) (text : String Global) → get ((printed_order.ghosts).cmp) printed key ≡ Some text
-    → Reaches space definitions key.scope key.def (string_bytes text)
+abbrev pub AllLead : Space → List Definition → BTreeMap PrintedKey (String Global) → Type 0
+AllLead space definitions printed = (key : PrintedKey) (text : String Global) → get ((printed_order.ghosts).cmp) printed key ≡ Some text
+    → LeadsFrom space definitions key.scope key.def (string_bytes text)
 
 -- a text is added to rows, or put in the place of another one
 abbrev pub IsPrintedMore : BTreeMap PrintedKey (String Global) → BTreeMap PrintedKey (String Global) → PrintedKey → String Global → Type 0

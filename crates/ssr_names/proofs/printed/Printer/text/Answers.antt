@@ -12,7 +12,8 @@ pub loop-name-init : goal.loop-name-init
 loop-name-init c =
     let numbers = c.args.self.now.space.now.table.now.names in
     ends_with_one c.args.first (string_bytes c.push_name.new.text)
-    (subst (λ (front : List ℕ). EndsWithName numbers c.args.first front (string_bytes c.push_name.new.text)) c.in_ok-text.ensures.ok c.in_ok-push_name.ensures)
+    (subst (λ (front : List ℕ). EndsWithName numbers c.args.first front (string_bytes c.push_name.new.text)) c.in_ok-text.ensures.ok
+    (c.in_ok-push_name.ensures c.if-not-branch.false))
 
 pub loop-name-preserved : goal.loop-name-preserved
 loop-name-preserved c =
@@ -21,7 +22,7 @@ loop-name-preserved c =
     let name = get_or others l.name-index none in
     let within : l.name-index < length others = c.loop-name-test.true in
     one_name_more c.args.self.now.space.now.table.now.names c.args.front.now c.args.first others l.name-index name (string_bytes l.text) _ _ within
-    (get_again others l.name-index none name within) l.invariant c.in_ok-push_str.ensures.bytes c.in_ok-push_name-2.ensures
+    (get_again others l.name-index none name within) l.invariant c.in_ok-push_str.ensures.bytes (c.in_ok-push_name-2.ensures c.if-not-branch-2.false)
 
 pub returns : goal.returns
 returns c =
