@@ -4,13 +4,13 @@ ghost use Rattle.std.specs.Prelude.{◌≡◌, ◌+◌, ◌<◌, ◌^◌, [], �
 ghost use Rattle.ssr_base_trees.specs.Applied.{changes_of};
 ghost use Rattle.ssr_base_trees.specs.Texts.{is_boundary};
 ghost use Rattle.ssr_standing.specs.Fitted.{change_with};
-ghost use Rattle.ide_ssr_rewriting.specs.Fitting.{expression_of, fitted_alone, fitted_between, is_alone};
-ghost use Rattle.ide_ssr_rewriting.specs.Private.Fitting.{ChangeFits, FitsRange, stands_in, text_around};
+ghost use Rattle.ssr_standing.specs.Parts.{expression_of};
+ghost use Rattle.ide_ssr_rewriting.specs.Fitting.{fitted_alone, fitted_between, is_alone};
+ghost use Rattle.ide_ssr_rewriting.specs.Private.Fitting.{ChangeFits, FitsRange, stands_alone, stands_in, text_around};
 
 use crate::replacements::{between, replaced};
 use ssr_base_trees::{FileRange, Trees};
-use ssr_standing::{agree, in_parentheses, new_ranges_from, old_ranges_from};
-use ssr_syntax::{Fragment, Reach, SyntaxError, fragment_of};
+use ssr_standing::{agree, expression_behind, in_parentheses, new_ranges_from, old_ranges_from};
 use ssr_syntax_kinds::TextRange;
 use ssr_syntax_tree::Tree;
 use std::alloc::{AllocError, Global};
@@ -27,25 +27,6 @@ fn is_alone(front: &str, range: TextRange, changes: &[(TextRange, String)]) -> b
             front.is_empty() && change.start == range.start && change.end == range.end
         }
         None => true,
-    }
-}
-
-/// What is read of an expression in a reach, with a text in front of it, if it is read. It is read in parentheses, in which comments may stand
-/// around it.
-fn expression(
-    alloc: Global,
-    reach: Reach,
-    front: &str,
-    text: &str,
-) -> Result<Option<Tree>, AllocError>
-    ensures tree { IfOk result (λ tree. tree ≡ expression_of reach front.now text.now) }
-    ensures short { IfOk result (λ tree. IfSome tree (λ _. 2 + length front.now + length text.now < 2 ^ 32)) }
-{
-    let closed = format!(in alloc; "({front}{text})")?;
-    match fragment_of(alloc, reach, Fragment::Expr, closed.as_str()) {
-        Ok((tree, _)) => Ok(Some(tree)),
-        Err(SyntaxError::Memory) => Err(AllocError),
-        Err(_) => Ok(None),
     }
 }
 
@@ -69,7 +50,7 @@ impl<'a> Part<'a> {
         ensures { IfOk result (λ answer. answer ≡ stands_in self.now.workspace.now self.now.front.now self.now.range (changes_of changes.now)) }
     {
         let text = replaced(alloc, self.workspace, self.range, changes)?;
-        let read = expression(alloc, self.workspace.reach(), self.front, text.as_str())?;
+        let read = expression_behind(alloc, self.workspace.reach(), self.front, text.as_str())?;
         let Some(new) = read else {
             return Ok(false);
         };
@@ -93,7 +74,7 @@ impl<'a> Part<'a> {
     /// The text of a change as it stands alone: as it is, or else in parentheses. What stands neither way stays as it is.
     fn fitted(&self, alloc: Global, range: TextRange, text: &str) -> Result<String, AllocError>
         requires { FitsRange self.now.workspace.now self.now.range range.start range.end }
-        ensures { IfOk result (λ new. change_with range (string_bytes new) ≡ fitted_alone (stands_in self.now.workspace.now self.now.front.now self.now.range) (change_with range text.now)) }
+        ensures { IfOk result (λ new. change_with range (string_bytes new) ≡ fitted_alone (stands_alone self.now.workspace.now self.now.front.now self.now.range) (change_with range text.now)) }
     {
         if self.stands_with(alloc, range, text)? {
             return String::from_str(alloc, text);
@@ -112,7 +93,7 @@ impl<'a> Part<'a> {
         changes: &[(TextRange, String)],
     ) -> Result<Vec<(TextRange, String)>, AllocError>
         requires { All (ChangeFits self.now.workspace.now self.now.range) (changes_of changes.now) }
-        ensures { IfOk result (λ fitted. changes_of fitted.items ≡ map (fitted_alone (stands_in self.now.workspace.now self.now.front.now self.now.range)) (changes_of changes.now)) }
+        ensures { IfOk result (λ fitted. changes_of fitted.items ≡ map (fitted_alone (stands_alone self.now.workspace.now self.now.front.now self.now.range)) (changes_of changes.now)) }
     {
         let mut fitted = Vec::with_capacity(alloc, changes.len())?;
         for (range, text) in changes {
@@ -142,7 +123,7 @@ pub(crate) fn fitted(
         return Ok(changes);
     }
     let text = between(workspace, range.file_id, range.range.start, range.range.end);
-    let read = expression(alloc, workspace.reach(), front, text)?;
+    let read = expression_behind(alloc, workspace.reach(), front, text)?;
     let Some(tree) = read else {
         return Ok(changes);
     };

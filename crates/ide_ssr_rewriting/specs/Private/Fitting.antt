@@ -1,10 +1,10 @@
 -- Private: changes of a range of a file.
-use Rattle.std.specs.Prelude.{ℕ, ◌≡◌, ◌≤◌, Bool, true, List}
+use Rattle.std.specs.Prelude.{ℕ, ◌≡◌, ◌≤◌, Bool, true, List, [], ◌∷◌}
 use Rattle.ssr_base_trees.specs.declared.ids.FileRange.{FileRange}
 use Rattle.ssr_base_trees.specs.Changes.{Change}
 use Rattle.ssr_base_trees.specs.Texts.{is_boundary}
 use Rattle.ssr_base_trees.specs.Workspace.{Workspace}
-use Rattle.ide_ssr_rewriting.specs.Fitting.{stands_between}
+use Rattle.ssr_standing.specs.Parts.{stands_between}
 use Rattle.ide_ssr_rewriting.specs.Replacements.{file_text}
 
 -- the text of the file
@@ -14,6 +14,10 @@ text_around w range = file_text w range.file_id.0
 -- the changes stand in the range, behind the text in front
 abbrev pub stands_in : Workspace → List ℕ → FileRange → List Change → Bool
 stands_in w front range cs = stands_between w.reach front (text_around w range) range.range.start range.range.end cs
+
+-- one change does
+abbrev pub stands_alone : Workspace → List ℕ → FileRange → Change → Bool
+stands_alone w front range c = stands_in w front range (c ∷ [])
 
 -- bytes of the file begin and end between characters, and end in the range
 pub record FitsRange (w : Workspace) (range : FileRange) (start end : ℕ) : Type 0 where

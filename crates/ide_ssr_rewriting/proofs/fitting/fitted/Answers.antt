@@ -1,11 +1,12 @@
-use Rattle.std.proofs.Common.{◌≡◌, ◌∙◌, List, ℕ, Vec, String, ap, map, sym}
+use Rattle.std.proofs.Common.{◌≡◌, ◌∙◌, List, [], ◌∷◌, ℕ, Vec, String, ap, map, sym}
 use Rattle.std.specs.Global.{Global}
 use Rattle.std.proofs.lemmas.Result.{IfOk-weaker}
 use Rattle.ssr_syntax_kinds.specs.declared.range.TextRange.{TextRange}
 use Rattle.ssr_syntax_kinds.specs.declared.reach.Reach.{Reach}
 use Rattle.ssr_base_trees.specs.Applied.{changes_of}
 use Rattle.ssr_base_trees.specs.Changes.{Change}
-use Rattle.ide_ssr_rewriting.specs.Fitting.{expression_of, fitted_alone, fitted_between, is_alone, stands_between}
+use Rattle.ssr_standing.specs.Parts.{expression_of, stands_between}
+use Rattle.ide_ssr_rewriting.specs.Fitting.{fitted_alone, fitted_between, is_alone}
 use Rattle.ide_ssr_rewriting.specs.Private.Fitting.{text_around}
 use Rattle.ide_ssr_rewriting.proofs.Fittings.{alone_fitted, each_fitted, standing_fitted, unread_fitted}
 use Rattle.ide_ssr_rewriting.proofs.fitting.fitted.Goals as goal
@@ -57,7 +58,7 @@ returns c =
     let text : List ℕ = text_around c.args.workspace.now c.args.range in
     let from : ℕ = c.args.range.range.start in
     let to : ℕ = c.args.range.range.end in
-    let each : List Change → List Change = map (fitted_alone (stands_between reach front text from to)) in
+    let each : List Change → List Change = map (fitted_alone (λ c. stands_between reach front text from to (c ∷ []))) in
     let made =
     sym
     (each_fitted reach front text from to (changes_of c.args.changes.items)

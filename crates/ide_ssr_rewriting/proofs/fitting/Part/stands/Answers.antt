@@ -7,10 +7,10 @@ use Rattle.ssr_base_trees.specs.Changes.{Change, replaced}
 use Rattle.ssr_base_trees.specs.Origins.{Span, span_of}
 use Rattle.ssr_standing.specs.Around.{agree}
 use Rattle.ssr_standing.specs.Ranges.{new_places, old_places}
-use Rattle.ssr_standing.proofs.Shared.{if_ok_same, part_short}
-use Rattle.ide_ssr_rewriting.specs.Fitting.{expression_of}
+use Rattle.ssr_standing.proofs.Shared.{if_ok_same, part_short, stands_as}
+use Rattle.ssr_standing.specs.Parts.{expression_of}
 use Rattle.ide_ssr_rewriting.specs.Private.Fitting.{stands_in, text_around}
-use Rattle.ide_ssr_rewriting.proofs.Fittings.{begin_in, in_file, old_short, stands_as}
+use Rattle.ide_ssr_rewriting.proofs.Fittings.{begin_in, in_file, old_short}
 use Rattle.ide_ssr_rewriting.proofs.fitting.Part.stands.Goals as goal
 
 pub replaced-requires-clause-changes : goal.replaced-requires-clause-changes
