@@ -66,7 +66,8 @@ fn all_fitted(
     if file.stands(alloc, &near)? {
         return Ok(near);
     }
-    each_fitted(alloc, file, Judge::File, &edit)
+    let alone = each_fitted(alloc, file, Judge::File, &edit)?;
+    Ok(alone)
 }
 
 /// The changes that are made in a file, some of them in parentheses so that it groups as before.

@@ -1,11 +1,9 @@
-use Rattle.std.proofs.Common.{◌≡◌, List, All, map, sym, ◌∙◌, ap, subst}
-use Rattle.std.proofs.lemmas.Result.{IfOk-weaker}
+use Rattle.std.proofs.Common.{All, sym, ◌∙◌, ap, subst}
 use Rattle.ssr_syntax_tree.specs.Syntax.{source_of}
-use Rattle.ssr_base_trees.specs.Changes.{Change, FitsText}
+use Rattle.ssr_base_trees.specs.Changes.{FitsText}
 use Rattle.ssr_standing.specs.Expansions.{stands_in}
 use Rattle.ssr_standing.specs.Near.{stands_by}
 use Rattle.ssr_standing.specs.declared.fitted.Judge.TheVariants as judges
-use Rattle.ide_ssr_rewriting.specs.Fitting.{fitted_alone, fitted_near}
 use Rattle.ide_ssr_rewriting.proofs.Fittings.{all_fit_text, all_stay, as_blocks_tell, each_alone}
 use Rattle.ide_ssr_rewriting.proofs.files.all_fitted.Goals as goal
 
@@ -33,9 +31,6 @@ pub returns : goal.returns
 returns c =
     let w = c.args.file.now.trees.now in
     let n = c.args.file.now.number in
-    IfOk-weaker c.each_fitted.result (λ (new : List Change). new ≡ map (fitted_alone (stands_by w n judges.File)) c.args.edit)
-    (λ (new : List Change). new ≡ fitted_near (stands_in w n) (stands_by w n) c.args.edit)
-    (λ new is. is
+    c.in_ok-alone.ensures
     ∙ each_alone (stands_in w n) (stands_by w n) c.args.edit (sym c.in_ok-stands.ensures ∙ c.if-branch.false)
-    (ap (stands_in w n) (sym c.in_ok-near.ensures) ∙ sym c.in_ok-stands-2.ensures ∙ c.if-branch-2.false))
-    c.each_fitted.ensures
+    (ap (stands_in w n) (sym c.in_ok-near.ensures) ∙ sym c.in_ok-stands-2.ensures ∙ c.if-branch-2.false)
