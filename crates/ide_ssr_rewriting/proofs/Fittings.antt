@@ -14,54 +14,44 @@ use Rattle.ssr_base_trees.specs.declared.ids.FileRange.{FileRange}
 use Rattle.ssr_base_trees.specs.Applied.{change_of, changes_of}
 use Rattle.ssr_base_trees.specs.Changes.{Change, ChangesInOrder, FitsText, replaced}
 use Rattle.ssr_base_trees.proofs.Changes.{change_at}
-use Rattle.ssr_base_trees.specs.Texts.{is_boundary}
 use Rattle.ssr_base_trees.specs.Workspace.{Workspace, file_span_of}
 use Rattle.ssr_standing.specs.Expansions.{stands_in}
 use Rattle.ssr_standing.specs.Fitted.{fitted, in_parentheses}
 use Rattle.ssr_standing.specs.Near.{stands_by}
-use Rattle.ssr_standing.specs.Parts.{agrees_after, expression_of, stands_between}
-use Rattle.ssr_standing.specs.Ranges.{IsShort, old_places, place_from}
+use Rattle.ssr_standing.specs.Parts.{FitsPart, agrees_after, expression_of, stands_between}
 use Rattle.ssr_standing.specs.declared.fitted.Judge.{Judge}
 use Rattle.ssr_standing.specs.declared.fitted.Judge.TheVariants as judges
-use Rattle.ssr_standing.proofs.Shared.{BeginsIn}
 use Rattle.ide_ssr_rewriting.specs.Fitting.{all_fitted, fitted_alone, fitted_between, fitted_in, fitted_near, is_alone}
 use Rattle.ide_ssr_rewriting.specs.Clashes.{Rewrite}
-use Rattle.ide_ssr_rewriting.specs.Replacements.{held_text}
+use Rattle.ide_ssr_rewriting.specs.Replacements.{file_text, held_text}
 use Rattle.ide_ssr_rewriting.specs.Private.Files.{FitsIn}
-use Rattle.ide_ssr_rewriting.specs.Private.Fitting.{ChangeFits, text_around}
-use Rattle.ide_ssr_rewriting.specs.Private.Replacements.{FitsFile}
 
 -- ** Parentheses leave the ranges of changes.
 
-fits_fitted : (stands : Change → Bool) (text : List ℕ) (c : Change) → FitsFile text c → FitsFile text (fitted stands c)
-fits_fitted stands text c fit = by (stands c)
-  where
-    by : (b : Bool) → FitsFile text (if b then c else in_parentheses c)
-    by true = fit
-    by false = record { begins = fit.begins; ends = fit.ends }
+module _ (stands : Change → Bool) where
+  fits_alone : (text : List ℕ) (c : Change) → FitsText text c → FitsText text (fitted_alone stands c)
+  fits_alone text c fit = by (stands (fitted stands c)) (stands c)
+    where
+      by : (b d : Bool) → FitsText text (if b then (if d then c else in_parentheses c) else c)
+      by true true = fit
+      by true false = fit
+      by false d = fit
 
-fits_alone : (stands : Change → Bool) (text : List ℕ) (c : Change) → FitsFile text c → FitsFile text (fitted_alone stands c)
-fits_alone stands text c fit = by (stands (fitted stands c))
-  where
-    by : (b : Bool) → FitsFile text (if b then fitted stands c else c)
-    by true = fits_fitted stands text c fit
-    by false = fit
+  pub all_fit_alone : (text : List ℕ) (cs : List Change) → All (FitsText text) cs → All (FitsText text) (map (fitted_alone stands) cs)
+  all_fit_alone text cs all = All-map (FitsText text) (fitted_alone stands) cs (λ k d less. fits_alone text (get_or cs k d) (all k d less))
 
-pub fits_between : (reach : Reach) (front text : List ℕ) (from to : ℕ) (cs : List Change) → All (FitsFile text) cs → All (FitsFile text) (fitted_between reach front text from to cs)
+pub fits_between : (reach : Reach) (front text : List ℕ) (from to : ℕ) (cs : List Change) → All (FitsText text) cs → All (FitsText text) (fitted_between reach front text from to cs)
 unfolding fitted_between
 fits_between reach front text from to cs all = by (is_alone front from to cs)
   where
     stands : List Change → Bool
     stands cs = stands_between reach front text from to cs
 
-    one : Change → Bool
-    one c = stands (c ∷ [])
-
-    or_each : (b : Bool) → All (FitsFile text) (if b then cs else map (fitted_alone one) cs)
+    or_each : (b : Bool) → All (FitsText text) (if b then cs else map (fitted_alone (λ c. stands (c ∷ []))) cs)
     or_each true = all
-    or_each false = All-map (FitsFile text) (fitted_alone one) cs (λ k d less. fits_alone one text (get_or cs k d) (all k d less))
+    or_each false = all_fit_alone (λ c. stands (c ∷ [])) text cs all
 
-    by : (b : Bool) → All (FitsFile text) (if b then cs else all_fitted stands cs)
+    by : (b : Bool) → All (FitsText text) (if b then cs else all_fitted stands cs)
     by true = all
     by false = or_each (stands cs)
 
@@ -86,19 +76,8 @@ module _ (stands : Change → Bool) where
       by true false = fit
       by false d = fit
 
-  all_fit_alone : (w : Workspace) (file : ℕ) (cs : List Change) → All (FitsIn w file) cs → All (FitsIn w file) (map (fitted_alone stands) cs)
-  all_fit_alone w file cs all = All-map (FitsIn w file) (fitted_alone stands) cs (λ k d less. fits_in_alone w file (get_or cs k d) (all k d less))
-
-  fits_text_alone : (text : List ℕ) (c : Change) → FitsText text c → FitsText text (fitted_alone stands c)
-  fits_text_alone text c fit = by (stands (fitted stands c)) (stands c)
-    where
-      by : (b d : Bool) → FitsText text (if b then (if d then c else in_parentheses c) else c)
-      by true true = fit
-      by true false = fit
-      by false d = fit
-
-  pub all_fit_text : (text : List ℕ) (cs : List Change) → All (FitsText text) cs → All (FitsText text) (map (fitted_alone stands) cs)
-  all_fit_text text cs all = All-map (FitsText text) (fitted_alone stands) cs (λ k d less. fits_text_alone text (get_or cs k d) (all k d less))
+  all_fit_in_alone : (w : Workspace) (file : ℕ) (cs : List Change) → All (FitsIn w file) cs → All (FitsIn w file) (map (fitted_alone stands) cs)
+  all_fit_in_alone w file cs all = All-map (FitsIn w file) (fitted_alone stands) cs (λ k d less. fits_in_alone w file (get_or cs k d) (all k d less))
 
 -- which of the three is made
 module _ (P : List Change → Type 0) (w : Workspace) (file : ℕ) (cs : List Change) where
@@ -120,8 +99,8 @@ order_in w file at cs order =
 -- and fit it
 pub fits_in_file : (w : Workspace) (file : ℕ) (cs : List Change) → All (FitsIn w file) cs → All (FitsIn w file) (fitted_in w file cs)
 fits_in_file w file cs all =
-    one_of (All (FitsIn w file)) w file cs all (all_fit_alone (stands_by w file judges.Block) w file cs all)
-    (all_fit_alone (stands_by w file judges.File) w file cs all)
+    one_of (All (FitsIn w file)) w file cs all (all_fit_in_alone (stands_by w file judges.Block) w file cs all)
+    (all_fit_in_alone (stands_by w file judges.File) w file cs all)
 
 -- they stay as they are, or are made as their blocks tell, or each as it stands alone
 module _ (stand : List Change → Bool) (by : Judge → Change → Bool) (cs : List Change) where
@@ -144,40 +123,11 @@ module _ (stand : List Change → Bool) (by : Judge → Change → Bool) (cs : L
 
 -- ** Changes of a range.
 
-pub in_file : (w : Workspace) (range : FileRange) (cs : List Change) → All (ChangeFits w range) cs → All (FitsFile (text_around w range)) cs
-in_file w range cs all = All-weaker (ChangeFits w range) (FitsFile (text_around w range)) (λ c h. record { begins = h.begins; ends = h.ends }) cs all
-
-within_text : (text : List ℕ) (i : ℕ) → is_boundary text i ≡ true → i ≤ length text
-within_text text i is =
-    leb-true i (length text) (and_parts (nat_le i (length text)) (nat_lt (slice_index text i) 128 || nat_le 192 (slice_index text i)) is).0
-
-pub begin_in : (w : Workspace) (range : FileRange) (cs : List Change) → All (ChangeFits w range) cs → All (BeginsIn (text_around w range)) cs
-begin_in w range cs all =
-    All-weaker (ChangeFits w range) (BeginsIn (text_around w range)) (λ c h. within_text (text_around w range) c.start h.begins) cs all
-
--- what is replaced in a range that is short enough to be read, in parentheses
-pub old_short : (w : Workspace) (range : FileRange) (cs : List Change) → All (ChangeFits w range) cs
-    → is_boundary (text_around w range) range.range.end ≡ true → (at : ℕ) → at + length (slice_range (text_around w range) range.range.start range.range.end) < 2 ^ 32
-    → All IsShort (old_places at range.range.start cs)
-old_short w range cs all ends at short =
-    All-map IsShort (place_from at range.range.start) cs (λ k d less. ends_early (get_or cs k d) (all k d less))
-  where
-    text : List ℕ
-    text = text_around w range
-
-    long : length (slice_range text range.range.start range.range.end) ≡ range.range.end - range.range.start
-    long =
-        length-take-le (range.range.end - range.range.start) (drop range.range.start text)
-        (omega (arith, length-drop range.range.start text, within_text text range.range.end ends))
-
-    ends_early : (c : Change) → ChangeFits w range c → IsShort (place_from at range.range.start c)
-    ends_early c fits = omega (arith, fits.within, long, short)
-
 -- one change fits where all do
-pub fits_here : (w : Workspace) (range : FileRange) (pairs : List (TextRange × String Global)) (i : ℕ) (pair : TextRange × String Global)
-    → i < length pairs → pair ≡ get_or pairs i pair → All (ChangeFits w range) (changes_of pairs) → ChangeFits w range (change_of pair)
-fits_here w range pairs i pair h e all =
-    subst (ChangeFits w range) (change_at pairs i pair (change_of pair) h e) (all i (change_of pair) (omega (arith, length-map pairs change_of)))
+pub fits_here : (text : List ℕ) (part : TextRange) (pairs : List (TextRange × String Global)) (i : ℕ) (pair : TextRange × String Global)
+    → i < length pairs → pair ≡ get_or pairs i pair → All (FitsPart text part) (changes_of pairs) → FitsPart text part (change_of pair)
+fits_here text part pairs i pair h e all =
+    subst (FitsPart text part) (change_at pairs i pair (change_of pair) h e) (all i (change_of pair) (omega (arith, length-map pairs change_of)))
 
 -- one change more that is fitted
 pub one_fitted : (fit : Change → Change) (pairs : List (TextRange × String Global)) (i : ℕ) (pair : TextRange × String Global) (text : String Global)
@@ -200,9 +150,9 @@ none_fitted reach front text from to = refl
 
 -- what is held, without changes
 pub empty_held : (w : Workspace) (front : List ℕ) (range : FileRange) (o : Option FileRange) (list : List Rewrite) → o ≡ Some range → length list ≡ 0
-    → slice_range (text_around w range) range.range.start range.range.end ≡ held_text w front (option_map file_span_of o) list
+    → slice_range (file_text w range.file_id.0) range.range.start range.range.end ≡ held_text w front (option_map file_span_of o) list
 empty_held w front range o [] is h =
-    ap (replaced (text_around w range) range.range.start range.range.end) (sym (none_fitted w.reach front (text_around w range) range.range.start range.range.end))
+    ap (replaced (file_text w range.file_id.0) range.range.start range.range.end) (sym (none_fitted w.reach front (file_text w range.file_id.0) range.range.start range.range.end))
     ∙ ap (λ (o : Option FileRange). held_text w front (option_map file_span_of o) []) (sym is)
 empty_held w front range o (r ∷ rs) is h = absurd (omega arith)
 
