@@ -26,12 +26,7 @@ fn is_around(tree: &Tree, node: NodeNo, range: TextRange) -> bool
 }
 
 /// A node, if it is such a block; else what was found.
-fn nearer(
-    tree: &Tree,
-    node: NodeNo,
-    range: TextRange,
-    found: Option<NodeNo>,
-) -> Option<NodeNo>
+fn nearer(tree: &Tree, node: NodeNo, range: TextRange, found: Option<NodeNo>) -> Option<NodeNo>
     requires { HasNode tree.now node.0 }
     ensures { result ≡ (if is_around tree.now (span_of range) (node_of tree.now node.0) then Some node else found) }
 {

@@ -82,11 +82,7 @@ pub struct Part<'a> {
 
 impl<'a> Part<'a> {
     /// Whether the part with changes made is an expression that groups as before: what is read agrees around the changes.
-    pub fn stands(
-        &self,
-        alloc: Global,
-        changes: &[(TextRange, String)],
-    ) -> Result<bool, AllocError>
+    pub fn stands(&self, alloc: Global, changes: &[(TextRange, String)]) -> Result<bool, AllocError>
         requires { All (FitsPart self.now.text.now self.now.range) (changes_of changes.now) }
         ensures { IfOk result (λ answer. answer ≡ stands_between self.now.reach self.now.front.now self.now.text.now self.now.range.start self.now.range.end (changes_of changes.now)) }
     {
