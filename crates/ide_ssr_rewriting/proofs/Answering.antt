@@ -1,10 +1,10 @@
 -- There is one answer, and its edits fit the files of the workspace.
-use Rattle.std.proofs.Common.{◌≡◌, ℕ, ◌<◌, ◌==◌, ◌||◌, Bool, inl, inr, true, List, [], ◌∷◌, ◌++◌, All, get_or, length, filter, Option, Some, None, refl, sym, ◌∙◌, ap, subst, arith}
-use Rattle.std.specs.Prelude.{Contains, IsCharBoundary, Ok, flat_map, nat_le, nat_lt, option_map, slice_get, slice_index}
+use Rattle.std.proofs.Common.{◌≡◌, ℕ, ◌<◌, ◌==◌, Bool, inl, inr, true, List, [], ◌∷◌, ◌++◌, All, get_or, length, filter, Option, Some, None, refl, sym, ◌∙◌, ap, subst, arith}
+use Rattle.std.specs.Prelude.{Contains, Ok, flat_map, option_map, slice_get}
 use Rattle.std.specs.BTreeMap.{BTreeMap}
 use Rattle.std.specs.List.{dedup, enumerate_from}
 use Rattle.std.specs.Option.{IsSomeAnd}
-use Rattle.std.proofs.lemmas.Bool.{and_parts, or_cases, eqb-true, leb-true, ltb-true}
+use Rattle.std.proofs.lemmas.Bool.{eqb-true}
 use Rattle.std.proofs.lemmas.List.Elements.{All-contains, All-filter, All-head, All-map, All-weaker, filter_passes}
 use Rattle.std.proofs.lemmas.List.Filters.{All-dedup}
 use Rattle.std.proofs.lemmas.Option.{same_Some, slice_get-get_or}
@@ -12,7 +12,6 @@ use Rattle.ssr_syntax_tree.specs.Syntax.{Syntax, source_of}
 use Rattle.ssr_base_trees.specs.declared.ids.FileId.{FileId}
 use Rattle.ssr_base_trees.specs.Changes.{Change, FitsText}
 use Rattle.ssr_base_trees.specs.Laws.{LiesInFile, IsSpanOf}
-use Rattle.ssr_base_trees.specs.Texts.{is_boundary}
 use Rattle.ssr_base_trees.specs.Workspace.{Workspace, node_id}
 use Rattle.ide_ssr_bindings.specs.Found.{FoundMatch}
 use Rattle.ide_ssr_nesting.specs.declared.holders.Holder.{Holder}
@@ -30,6 +29,7 @@ use Rattle.ide_ssr_rewriting.proofs.Fittings.{fits_in_file}
 use Rattle.ide_ssr_rewriting.proofs.Groups.{edit_ordered}
 use Rattle.ide_ssr_rewriting.proofs.Nests.{is_nest}
 use Rattle.ide_ssr_rewriting.proofs.Pieces.{list_in_order}
+use Rattle.ide_ssr_rewriting.proofs.Written.{boundary_of}
 use Rattle.ide_ssr_rewriting.proofs.Texts.{list_same, lists_same, one_text}
 
 -- ** One answer.
@@ -69,17 +69,6 @@ edits_or_clash kept lists by is are edits earlier later first second =
     (all_same kept lists by (is_nest kept lists is are) second.0 first.0 second.1 first.1 ∙ first.2.0) second.2.0
 
 -- ** Edits fit.
-
-boundary_of : (text : List ℕ) (i : ℕ) → is_boundary text i ≡ true → IsCharBoundary text i
-boundary_of text i is =
-    let byte = slice_index text i in
-    let both = and_parts (nat_le i (length text)) (nat_lt byte 128 || nat_le 192 byte) is in (
-      leb-true i (length text) both.0,
-      λ within high. elim (or_cases (nat_lt byte 128) (nat_le 192 byte) both.1) [
-        | inl low ↦ absurd (let less = ltb-true byte 128 low in omega arith)
-        | inr lead ↦ leb-true 192 byte lead
-      ],
-    )
 
 pub change_fits : (w : Workspace) (file : ℕ) (r : Rewrite) → r.range.file ≡ file → LiesInFile w r.range → FitsIn w file (change_of r)
 change_fits w file r same lies =

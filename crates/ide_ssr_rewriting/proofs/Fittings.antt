@@ -12,58 +12,55 @@ use Rattle.std.proofs.lemmas.List.Elements.{All-map, All-weaker}
 use Rattle.ssr_syntax_kinds.specs.declared.range.TextRange.{TextRange}
 use Rattle.ssr_base_trees.specs.declared.ids.FileRange.{FileRange}
 use Rattle.ssr_base_trees.specs.Applied.{change_of, changes_of}
-use Rattle.ssr_base_trees.specs.Changes.{Change, ChangesInOrder, replaced}
+use Rattle.ssr_base_trees.specs.Changes.{Change, ChangesInOrder, FitsText, replaced}
 use Rattle.ssr_base_trees.proofs.Changes.{change_at}
-use Rattle.ssr_base_trees.specs.Texts.{is_boundary}
 use Rattle.ssr_base_trees.specs.Workspace.{Workspace, file_span_of}
 use Rattle.ssr_standing.specs.Expansions.{stands_in}
 use Rattle.ssr_standing.specs.Fitted.{fitted, in_parentheses}
-use Rattle.ssr_standing.specs.Ranges.{IsShort, old_places, place_from}
-use Rattle.ssr_standing.proofs.Shared.{BeginsIn}
-use Rattle.ide_ssr_rewriting.specs.Fitting.{agrees_after, all_fitted, expression_of, fitted_alone, fitted_between, fitted_in, is_alone, stands_between}
+use Rattle.ssr_standing.specs.Near.{stands_by}
+use Rattle.ssr_standing.specs.Parts.{FitsPart, agrees_after, expression_of, stands_between}
+use Rattle.ssr_standing.specs.declared.fitted.Judge.{Judge}
+use Rattle.ssr_standing.specs.declared.fitted.Judge.TheVariants as judges
+use Rattle.ide_ssr_rewriting.specs.Fitting.{all_fitted, fitted_alone, fitted_between, fitted_in, fitted_near, is_alone}
 use Rattle.ide_ssr_rewriting.specs.Clashes.{Rewrite}
-use Rattle.ide_ssr_rewriting.specs.Replacements.{held_text}
+use Rattle.ide_ssr_rewriting.specs.Replacements.{file_text, held_text}
 use Rattle.ide_ssr_rewriting.specs.Private.Files.{FitsIn}
-use Rattle.ide_ssr_rewriting.specs.Private.Fitting.{ChangeFits, text_around}
-use Rattle.ide_ssr_rewriting.specs.Private.Replacements.{FitsFile}
 
 -- ** Parentheses leave the ranges of changes.
 
-fits_fitted : (stands : List Change → Bool) (text : List ℕ) (c : Change) → FitsFile text c → FitsFile text (fitted stands c)
-fits_fitted stands text c fit = by (stands (c ∷ []))
-  where
-    by : (b : Bool) → FitsFile text (if b then c else in_parentheses c)
-    by true = fit
-    by false = record { begins = fit.begins; ends = fit.ends }
+module _ (stands : Change → Bool) where
+  fits_alone : (text : List ℕ) (c : Change) → FitsText text c → FitsText text (fitted_alone stands c)
+  fits_alone text c fit = by (stands (fitted stands c)) (stands c)
+    where
+      by : (b d : Bool) → FitsText text (if b then (if d then c else in_parentheses c) else c)
+      by true true = fit
+      by true false = fit
+      by false d = fit
 
-fits_alone : (stands : List Change → Bool) (text : List ℕ) (c : Change) → FitsFile text c → FitsFile text (fitted_alone stands c)
-fits_alone stands text c fit = by (stands (fitted stands c ∷ []))
-  where
-    by : (b : Bool) → FitsFile text (if b then fitted stands c else c)
-    by true = fits_fitted stands text c fit
-    by false = fit
+  pub all_fit_alone : (text : List ℕ) (cs : List Change) → All (FitsText text) cs → All (FitsText text) (map (fitted_alone stands) cs)
+  all_fit_alone text cs all = All-map (FitsText text) (fitted_alone stands) cs (λ k d less. fits_alone text (get_or cs k d) (all k d less))
 
-pub fits_between : (reach : Reach) (front text : List ℕ) (from to : ℕ) (cs : List Change) → All (FitsFile text) cs → All (FitsFile text) (fitted_between reach front text from to cs)
+pub fits_between : (reach : Reach) (front text : List ℕ) (from to : ℕ) (cs : List Change) → All (FitsText text) cs → All (FitsText text) (fitted_between reach front text from to cs)
 unfolding fitted_between
 fits_between reach front text from to cs all = by (is_alone front from to cs)
   where
     stands : List Change → Bool
     stands cs = stands_between reach front text from to cs
 
-    or_each : (b : Bool) → All (FitsFile text) (if b then cs else map (fitted_alone stands) cs)
+    or_each : (b : Bool) → All (FitsText text) (if b then cs else map (fitted_alone (λ c. stands (c ∷ []))) cs)
     or_each true = all
-    or_each false = All-map (FitsFile text) (fitted_alone stands) cs (λ k d less. fits_alone stands text (get_or cs k d) (all k d less))
+    or_each false = all_fit_alone (λ c. stands (c ∷ [])) text cs all
 
-    by : (b : Bool) → All (FitsFile text) (if b then cs else all_fitted stands cs)
+    by : (b : Bool) → All (FitsText text) (if b then cs else all_fitted stands cs)
     by true = all
     by false = or_each (stands cs)
 
 -- ** Changes of a file.
 
-module _ (stands : List Change → Bool) where
+module _ (stands : Change → Bool) where
   pub order_alone : (at : ℕ) (cs : List Change) → ChangesInOrder at cs → ChangesInOrder at (map (fitted_alone stands) cs)
   order_alone at [] order = tt
-  order_alone at (c ∷ cs) order = by (stands (fitted stands c ∷ [])) (stands (c ∷ [])) (order_alone c.end cs order.2)
+  order_alone at (c ∷ cs) order = by (stands (fitted stands c)) (stands c) (order_alone c.end cs order.2)
     where
       by : (b d : Bool) → ChangesInOrder c.end (map (fitted_alone stands) cs)
           → ChangesInOrder at ((if b then (if d then c else in_parentheses c) else c) ∷ map (fitted_alone stands) cs)
@@ -72,76 +69,65 @@ module _ (stands : List Change → Bool) where
       by false d rest = (order.0, order.1, rest)
 
   fits_in_alone : (w : Workspace) (file : ℕ) (c : Change) → FitsIn w file c → FitsIn w file (fitted_alone stands c)
-  fits_in_alone w file c fit = by (stands (fitted stands c ∷ [])) (stands (c ∷ []))
+  fits_in_alone w file c fit = by (stands (fitted stands c)) (stands c)
     where
       by : (b d : Bool) → FitsIn w file (if b then (if d then c else in_parentheses c) else c)
       by true true = fit
       by true false = fit
       by false d = fit
 
+  all_fit_in_alone : (w : Workspace) (file : ℕ) (cs : List Change) → All (FitsIn w file) cs → All (FitsIn w file) (map (fitted_alone stands) cs)
+  all_fit_in_alone w file cs all = All-map (FitsIn w file) (fitted_alone stands) cs (λ k d less. fits_in_alone w file (get_or cs k d) (all k d less))
+
+-- which of the three is made
+module _ (P : List Change → Type 0) (w : Workspace) (file : ℕ) (cs : List Change) where
+  one_of : P cs → P (map (fitted_alone (stands_by w file judges.Block)) cs) → P (map (fitted_alone (stands_by w file judges.File)) cs) → P (fitted_in w file cs)
+  unfolding fitted_in
+  one_of all near alone = by (stands_in w file cs) (stands_in w file (map (fitted_alone (stands_by w file judges.Block)) cs))
+    where
+      by : (b d : Bool)
+          → P (if b then cs else if d then map (fitted_alone (stands_by w file judges.Block)) cs else map (fitted_alone (stands_by w file judges.File)) cs)
+      by true d = all
+      by false true = near
+      by false false = alone
+
 -- the changes that are made in a file are in order
 pub order_in : (w : Workspace) (file at : ℕ) (cs : List Change) → ChangesInOrder at cs → ChangesInOrder at (fitted_in w file cs)
-unfolding fitted_in
-order_in w file at cs order = by (stands_in w file cs)
-  where
-    by : (b : Bool) → ChangesInOrder at (if b then cs else map (fitted_alone (stands_in w file)) cs)
-    by true = order
-    by false = order_alone (stands_in w file) at cs order
+order_in w file at cs order =
+    one_of (ChangesInOrder at) w file cs order (order_alone (stands_by w file judges.Block) at cs order) (order_alone (stands_by w file judges.File) at cs order)
 
 -- and fit it
 pub fits_in_file : (w : Workspace) (file : ℕ) (cs : List Change) → All (FitsIn w file) cs → All (FitsIn w file) (fitted_in w file cs)
-unfolding fitted_in
-fits_in_file w file cs all = by (stands_in w file cs)
-  where
-    by : (b : Bool) → All (FitsIn w file) (if b then cs else map (fitted_alone (stands_in w file)) cs)
-    by true = all
-    by false = All-map (FitsIn w file) (fitted_alone (stands_in w file)) cs (λ k d less. fits_in_alone (stands_in w file) w file (get_or cs k d) (all k d less))
+fits_in_file w file cs all =
+    one_of (All (FitsIn w file)) w file cs all (all_fit_in_alone (stands_by w file judges.Block) w file cs all)
+    (all_fit_in_alone (stands_by w file judges.File) w file cs all)
 
--- they stay as they are, or each is made as it stands alone
-pub all_stay : (w : Workspace) (file : ℕ) (cs : List Change) → stands_in w file cs ≡ true → cs ≡ fitted_in w file cs
-unfolding fitted_in
-all_stay w file cs is = sym (ap (λ b. if b then cs else map (fitted_alone (stands_in w file)) cs) is)
+-- they stay as they are, or are made as their blocks tell, or each as it stands alone
+module _ (stand : List Change → Bool) (by : Judge → Change → Bool) (cs : List Change) where
+  abbrev near : List Change
+  near = map (fitted_alone (by judges.Block)) cs
 
-pub each_alone : (w : Workspace) (file : ℕ) (cs : List Change) → stands_in w file cs ≡ false → map (fitted_alone (stands_in w file)) cs ≡ fitted_in w file cs
-unfolding fitted_in
-each_alone w file cs is = sym (ap (λ b. if b then cs else map (fitted_alone (stands_in w file)) cs) is)
+  abbrev alone : List Change
+  alone = map (fitted_alone (by judges.File)) cs
+
+  pub all_stay : stand cs ≡ true → cs ≡ fitted_near stand by cs
+  all_stay is = sym (ap (λ b. if b then cs else if stand near then near else alone) is)
+
+  pub as_blocks_tell : stand cs ≡ false → stand near ≡ true → near ≡ fitted_near stand by cs
+  as_blocks_tell all is =
+      sym (ap (λ b. if b then cs else if stand near then near else alone) all ∙ ap (λ b. if b then near else alone) is)
+
+  pub each_alone : stand cs ≡ false → stand near ≡ false → alone ≡ fitted_near stand by cs
+  each_alone all is =
+      sym (ap (λ b. if b then cs else if stand near then near else alone) all ∙ ap (λ b. if b then near else alone) is)
 
 -- ** Changes of a range.
 
-pub in_file : (w : Workspace) (range : FileRange) (cs : List Change) → All (ChangeFits w range) cs → All (FitsFile (text_around w range)) cs
-in_file w range cs all = All-weaker (ChangeFits w range) (FitsFile (text_around w range)) (λ c h. record { begins = h.begins; ends = h.ends }) cs all
-
-within_text : (text : List ℕ) (i : ℕ) → is_boundary text i ≡ true → i ≤ length text
-within_text text i is =
-    leb-true i (length text) (and_parts (nat_le i (length text)) (nat_lt (slice_index text i) 128 || nat_le 192 (slice_index text i)) is).0
-
-pub begin_in : (w : Workspace) (range : FileRange) (cs : List Change) → All (ChangeFits w range) cs → All (BeginsIn (text_around w range)) cs
-begin_in w range cs all =
-    All-weaker (ChangeFits w range) (BeginsIn (text_around w range)) (λ c h. within_text (text_around w range) c.start h.begins) cs all
-
--- what is replaced in a range that is short enough to be read, in parentheses
-pub old_short : (w : Workspace) (range : FileRange) (cs : List Change) → All (ChangeFits w range) cs
-    → is_boundary (text_around w range) range.range.end ≡ true → (at : ℕ) → at + length (slice_range (text_around w range) range.range.start range.range.end) < 2 ^ 32
-    → All IsShort (old_places at range.range.start cs)
-old_short w range cs all ends at short =
-    All-map IsShort (place_from at range.range.start) cs (λ k d less. ends_early (get_or cs k d) (all k d less))
-  where
-    text : List ℕ
-    text = text_around w range
-
-    long : length (slice_range text range.range.start range.range.end) ≡ range.range.end - range.range.start
-    long =
-        length-take-le (range.range.end - range.range.start) (drop range.range.start text)
-        (omega (arith, length-drop range.range.start text, within_text text range.range.end ends))
-
-    ends_early : (c : Change) → ChangeFits w range c → IsShort (place_from at range.range.start c)
-    ends_early c fits = omega (arith, fits.within, long, short)
-
 -- one change fits where all do
-pub fits_here : (w : Workspace) (range : FileRange) (pairs : List (TextRange × String Global)) (i : ℕ) (pair : TextRange × String Global)
-    → i < length pairs → pair ≡ get_or pairs i pair → All (ChangeFits w range) (changes_of pairs) → ChangeFits w range (change_of pair)
-fits_here w range pairs i pair h e all =
-    subst (ChangeFits w range) (change_at pairs i pair (change_of pair) h e) (all i (change_of pair) (omega (arith, length-map pairs change_of)))
+pub fits_here : (text : List ℕ) (part : TextRange) (pairs : List (TextRange × String Global)) (i : ℕ) (pair : TextRange × String Global)
+    → i < length pairs → pair ≡ get_or pairs i pair → All (FitsPart text part) (changes_of pairs) → FitsPart text part (change_of pair)
+fits_here text part pairs i pair h e all =
+    subst (FitsPart text part) (change_at pairs i pair (change_of pair) h e) (all i (change_of pair) (omega (arith, length-map pairs change_of)))
 
 -- one change more that is fitted
 pub one_fitted : (fit : Change → Change) (pairs : List (TextRange × String Global)) (i : ℕ) (pair : TextRange × String Global) (text : String Global)
@@ -156,17 +142,6 @@ one_fitted fit pairs i pair text old new h e more is so =
     ∙ ap (λ (c : Change). map fit (take i (changes_of pairs) ++ c ∷ [])) (sym (change_at pairs i pair (change_of pair) h e))
     ∙ ap (map fit) (sym (take_more (changes_of pairs) i (change_of pair) (omega (arith, length-map pairs change_of))))
 
--- ** Whether changes stand.
-
--- they stand in a part that is read if what is read with them agrees
-pub stands_as : (reach : Reach) (front text : List ℕ) (from to : ℕ) (cs : List Change) (old : Syntax) (new : Option Syntax)
-    → expression_of reach front (slice_range text from to) ≡ Some old → new ≡ expression_of reach front (replaced text from to cs)
-    → option_map_or (agrees_after (1 + length front) from cs old) new false ≡ stands_between reach front text from to cs
-stands_as reach front text from to cs old new read is =
-    ap (λ (new : Option Syntax). option_map_or (agrees_after (1 + length front) from cs old) new false) is
-    ∙ ap (λ (o : Option Syntax). option_map_or (λ old. option_map_or (agrees_after (1 + length front) from cs old) (expression_of reach front (replaced text from to cs)) false) o false)
-    (sym read)
-
 -- ** What is made.
 
 pub none_fitted : (reach : Reach) (front text : List ℕ) (from to : ℕ) → fitted_between reach front text from to [] ≡ []
@@ -175,9 +150,9 @@ none_fitted reach front text from to = refl
 
 -- what is held, without changes
 pub empty_held : (w : Workspace) (front : List ℕ) (range : FileRange) (o : Option FileRange) (list : List Rewrite) → o ≡ Some range → length list ≡ 0
-    → slice_range (text_around w range) range.range.start range.range.end ≡ held_text w front (option_map file_span_of o) list
+    → slice_range (file_text w range.file_id.0) range.range.start range.range.end ≡ held_text w front (option_map file_span_of o) list
 empty_held w front range o [] is h =
-    ap (replaced (text_around w range) range.range.start range.range.end) (sym (none_fitted w.reach front (text_around w range) range.range.start range.range.end))
+    ap (replaced (file_text w range.file_id.0) range.range.start range.range.end) (sym (none_fitted w.reach front (file_text w range.file_id.0) range.range.start range.range.end))
     ∙ ap (λ (o : Option FileRange). held_text w front (option_map file_span_of o) []) (sym is)
 empty_held w front range o (r ∷ rs) is h = absurd (omega arith)
 
@@ -190,46 +165,46 @@ pub standing_fitted : (reach : Reach) (front text : List ℕ) (from to : ℕ) (c
 unfolding fitted_between
 standing_fitted reach front text from to cs whole stand =
     ap (λ b. if b then cs else all_fitted (stands_between reach front text from to) cs) whole
-    ∙ ap (λ b. if b then cs else map (fitted_alone (stands_between reach front text from to)) cs) stand
+    ∙ ap (λ b. if b then cs else map (fitted_alone (λ c. stands_between reach front text from to (c ∷ []))) cs) stand
 
 pub each_fitted : (reach : Reach) (front text : List ℕ) (from to : ℕ) (cs : List Change) → is_alone front from to cs ≡ false → stands_between reach front text from to cs ≡ false
-    → fitted_between reach front text from to cs ≡ map (fitted_alone (stands_between reach front text from to)) cs
+    → fitted_between reach front text from to cs ≡ map (fitted_alone (λ c. stands_between reach front text from to (c ∷ []))) cs
 unfolding fitted_between
 each_fitted reach front text from to cs whole fall =
     ap (λ b. if b then cs else all_fitted (stands_between reach front text from to) cs) whole
-    ∙ ap (λ b. if b then cs else map (fitted_alone (stands_between reach front text from to)) cs) fall
+    ∙ ap (λ b. if b then cs else map (fitted_alone (λ c. stands_between reach front text from to (c ∷ []))) cs) fall
 
 -- where nothing stands, all changes stay as they are
-none_stand : (stands : List Change → Bool) (cs : List Change) → ((cs : List Change) → stands cs ≡ false) → map (fitted_alone stands) cs ≡ cs
+none_stand : (stands : Change → Bool) (cs : List Change) → ((c : Change) → stands c ≡ false) → map (fitted_alone stands) cs ≡ cs
 none_stand stands [] none = refl
 none_stand stands (c ∷ cs) none =
-    ap (λ b. (if b then fitted stands c else c) ∷ map (fitted_alone stands) cs) (none (fitted stands c ∷ []))
+    ap (λ b. (if b then fitted stands c else c) ∷ map (fitted_alone stands) cs) (none (fitted stands c))
     ∙ ap (λ (cs : List Change). c ∷ cs) (none_stand stands cs none)
 
 pub unread_fitted : (reach : Reach) (front text : List ℕ) (from to : ℕ) (cs : List Change) → is_alone front from to cs ≡ false → expression_of reach front (slice_range text from to) ≡ None
     → fitted_between reach front text from to cs ≡ cs
 unread_fitted reach front text from to cs whole unread =
-    each_fitted reach front text from to cs whole (fall cs) ∙ none_stand (stands_between reach front text from to) cs fall
+    each_fitted reach front text from to cs whole (fall cs) ∙ none_stand (λ c. stands_between reach front text from to (c ∷ [])) cs (λ c. fall (c ∷ []))
   where
     fall : (cs : List Change) → stands_between reach front text from to cs ≡ false
     fall cs = ap (λ (old : Option Syntax). option_map_or (λ old. option_map_or (agrees_after (1 + length front) from cs old) (expression_of reach front (replaced text from to cs)) false) old false) unread
 
 -- ** One change alone.
 
-pub stays : (stands : List Change → Bool) (c : Change) → stands (c ∷ []) ≡ true → fitted_alone stands c ≡ c
+pub stays : (stands : Change → Bool) (c : Change) → stands c ≡ true → fitted_alone stands c ≡ c
 stays stands c is =
     let same : fitted stands c ≡ c = ap (λ b. if b then c else in_parentheses c) is in
-    ap (λ (d : Change). if stands (d ∷ []) then d else c) same ∙ ap (λ b. if b then c else c) is
+    ap (λ (d : Change). if stands d then d else c) same ∙ ap (λ b. if b then c else c) is
 
-module _ (stands : List Change → Bool) (c : Change) (fall : stands (c ∷ []) ≡ false) where
+module _ (stands : Change → Bool) (c : Change) (fall : stands c ≡ false) where
   in_them : fitted stands c ≡ in_parentheses c
   in_them = ap (λ b. if b then c else in_parentheses c) fall
 
-  pub closed : stands (in_parentheses c ∷ []) ≡ true → fitted_alone stands c ≡ in_parentheses c
-  closed is = ap (λ (d : Change). if stands (d ∷ []) then d else c) in_them ∙ ap (λ b. if b then in_parentheses c else c) is
+  pub closed : stands (in_parentheses c) ≡ true → fitted_alone stands c ≡ in_parentheses c
+  closed is = ap (λ (d : Change). if stands d then d else c) in_them ∙ ap (λ b. if b then in_parentheses c else c) is
 
-  pub stays_open : stands (in_parentheses c ∷ []) ≡ false → fitted_alone stands c ≡ c
-  stays_open is = ap (λ (d : Change). if stands (d ∷ []) then d else c) in_them ∙ ap (λ b. if b then in_parentheses c else c) is
+  pub stays_open : stands (in_parentheses c) ≡ false → fitted_alone stands c ≡ c
+  stays_open is = ap (λ (d : Change). if stands d then d else c) in_them ∙ ap (λ b. if b then in_parentheses c else c) is
 
 -- ** Whether nothing stands around changes.
 

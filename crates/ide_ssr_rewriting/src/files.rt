@@ -1,53 +1,76 @@
 //! Which replacements in a file are put in parentheses, so that it groups as before.
 
-ghost use Rattle.std.specs.Prelude.{◌≡◌, ◌≤◌, All, IfOk, map, string_bytes};
+ghost use Rattle.std.specs.Prelude.{◌≡◌, All, IfOk, map, string_bytes};
 ghost use Rattle.ssr_syntax_tree.specs.Syntax.{source_of};
 ghost use Rattle.ssr_base_trees.specs.Changes.{FitsText};
 ghost use Rattle.ssr_standing.specs.Expansions.{stands_in};
 ghost use Rattle.ssr_standing.specs.Fitted.{change_with};
-ghost use Rattle.ide_ssr_rewriting.specs.Fitting.{fitted_alone, fitted_in};
+ghost use Rattle.ssr_standing.specs.Near.{stands_by};
+ghost use Rattle.ide_ssr_rewriting.specs.Fitting.{fitted_alone, fitted_in, fitted_near};
 ghost use Rattle.ide_ssr_rewriting.specs.Private.Files.{FitsTree};
 
 use ssr_base_trees::{FileId, TextEdit, Trees};
-use ssr_standing::SearchedFile;
+use ssr_standing::{Judge, SearchedFile};
 use ssr_syntax_kinds::TextRange;
 use std::alloc::{AllocError, Global};
 
-/// The text of a change as it stands alone: as it is, or else in parentheses. What stands neither way stays as it is.
+/// The text of a change as it stands by what it is judged by: as it is, or else in parentheses. What stands neither way stays as it is.
 fn fitted(
     alloc: Global,
     file: &SearchedFile<'_>,
+    judge: Judge,
     range: TextRange,
     text: &str,
 ) -> Result<String, AllocError>
-    requires order { range.start ≤ range.end }
-    requires fits { FitsText (source_of file.now.tree.now) (change_with range text.now) }
-    ensures { IfOk result (λ new. change_with range (string_bytes new) ≡ fitted_alone (stands_in file.now.trees.now file.now.number) (change_with range text.now)) }
+    requires { FitsText (source_of file.now.tree.now) (change_with range text.now) }
+    ensures { IfOk result (λ new. change_with range (string_bytes new) ≡ fitted_alone (stands_by file.now.trees.now file.now.number judge) (change_with range text.now)) }
 {
-    match file.fitted(alloc, range, text)? {
+    match file.fitted(alloc, judge, range, text)? {
         Some(new) => Ok(new),
         None => String::from_str(alloc, text),
     }
 }
 
-/// Each change of a file as it stands alone.
+/// Each change of a file as it stands by what it is judged by.
 fn each_fitted(
     alloc: Global,
     file: &SearchedFile<'_>,
+    judge: Judge,
     edit: &TextEdit,
 ) -> Result<TextEdit, AllocError>
     requires { All (FitsText (source_of file.now.tree.now)) edit.now }
-    ensures { IfOk result (λ new. new ≡ map (fitted_alone (stands_in file.now.trees.now file.now.number)) edit.now) }
+    ensures { IfOk result (λ new. new ≡ map (fitted_alone (stands_by file.now.trees.now file.now.number judge)) edit.now) }
 {
     let mut changes = Vec::new(alloc);
     for (range, text) in edit.iter().as_slice() {
-        let fit = fitted(alloc, file, *range, text.as_str())?;
+        let fit = fitted(alloc, file, judge, *range, text.as_str())?;
         changes.push((*range, fit))?;
     }
     Ok(TextEdit::new(changes))
 }
 
-/// The changes that are made in a file: as they are, if it groups as before with all of them, else each as it stands alone.
+/// The changes of a file as they are, if it groups as before with all of them; else as their blocks tell, if it does so with these; else
+/// each as it stands alone in the whole file.
+fn all_fitted(
+    alloc: Global,
+    file: &SearchedFile<'_>,
+    edit: TextEdit,
+) -> Result<TextEdit, AllocError>
+    requires { All (FitsText (source_of file.now.tree.now)) edit }
+    ensures { IfOk result (λ new. new ≡ fitted_near (stands_in file.now.trees.now file.now.number) (stands_by file.now.trees.now file.now.number) edit) }
+{
+    if file.stands(alloc, &edit)? {
+        return Ok(edit);
+    }
+    let near = each_fitted(alloc, file, Judge::Block, &edit)?;
+    if file.stands(alloc, &near)? {
+        return Ok(near);
+    }
+    let alone = each_fitted(alloc, file, Judge::File, &edit)?;
+    Ok(alone)
+}
+
+/// The changes that are made in a file, some of them in parentheses so that it groups as before.
 pub(crate) fn fitted_in(
     alloc: Global,
     workspace: &Trees,
@@ -65,8 +88,5 @@ pub(crate) fn fitted_in(
         number: file.0,
         tree,
     };
-    if searched.stands(alloc, &edit)? {
-        return Ok(edit);
-    }
-    each_fitted(alloc, &searched, &edit)
+    all_fitted(alloc, &searched, edit)
 }

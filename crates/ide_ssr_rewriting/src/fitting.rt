@@ -1,18 +1,14 @@
 //! Which replacements in what a placeholder holds are put in parentheses, so that it groups as before.
 
-ghost use Rattle.std.specs.Prelude.{◌≡◌, ◌+◌, ◌<◌, ◌^◌, [], ◌∷◌, All, IfOk, IfSome, Some, length, map, slice_range, string_bytes, true};
+ghost use Rattle.std.specs.Prelude.{◌≡◌, All, IfOk, IsCharBoundary, map, string_bytes};
 ghost use Rattle.ssr_base_trees.specs.Applied.{changes_of};
-ghost use Rattle.ssr_base_trees.specs.Texts.{is_boundary};
 ghost use Rattle.ssr_standing.specs.Fitted.{change_with};
-ghost use Rattle.ide_ssr_rewriting.specs.Fitting.{expression_of, fitted_alone, fitted_between, is_alone};
-ghost use Rattle.ide_ssr_rewriting.specs.Private.Fitting.{ChangeFits, FitsRange, stands_in, text_around};
+ghost use Rattle.ssr_standing.specs.Parts.{FitsPart};
+ghost use Rattle.ide_ssr_rewriting.specs.Fitting.{fitted_alone, fitted_between, is_alone};
+ghost use Rattle.ide_ssr_rewriting.specs.Private.Fitting.{stands_alone};
 
-use crate::replacements::{between, replaced};
-use ssr_base_trees::{FileRange, Trees};
-use ssr_standing::{agree, in_parentheses, new_ranges_from, old_ranges_from};
-use ssr_syntax::{Fragment, Reach, SyntaxError, fragment_of};
-use ssr_syntax_kinds::TextRange;
-use ssr_syntax_tree::Tree;
+use ssr_standing::{Part, between, expression_behind, in_parentheses};
+use ssr_syntax_kinds::{Reach, TextRange};
 use std::alloc::{AllocError, Global};
 
 /// Whether there is no change, or nothing around it: it has the whole range, and no text stands in front.
@@ -30,130 +26,76 @@ fn is_alone(front: &str, range: TextRange, changes: &[(TextRange, String)]) -> b
     }
 }
 
-/// What is read of an expression in a reach, with a text in front of it, if it is read. It is read in parentheses, in which comments may stand
-/// around it.
-fn expression(
+/// The text of a change of a part as it stands alone: as it is, or else in parentheses. What stands neither way stays as it is.
+fn fitted_alone(
     alloc: Global,
-    reach: Reach,
-    front: &str,
+    part: &Part<'_>,
+    range: TextRange,
     text: &str,
-) -> Result<Option<Tree>, AllocError>
-    ensures tree { IfOk result (λ tree. tree ≡ expression_of reach front.now text.now) }
-    ensures short { IfOk result (λ tree. IfSome tree (λ _. 2 + length front.now + length text.now < 2 ^ 32)) }
+) -> Result<String, AllocError>
+    requires { FitsPart part.now.text.now part.now.range (change_with range text.now) }
+    ensures { IfOk result (λ new. change_with range (string_bytes new) ≡ fitted_alone (stands_alone part.now) (change_with range text.now)) }
 {
-    let closed = format!(in alloc; "({front}{text})")?;
-    match fragment_of(alloc, reach, Fragment::Expr, closed.as_str()) {
-        Ok((tree, _)) => Ok(Some(tree)),
-        Err(SyntaxError::Memory) => Err(AllocError),
-        Err(_) => Ok(None),
+    if part.stands_with(alloc, range, text)? {
+        return String::from_str(alloc, text);
     }
+    let wrapped = in_parentheses(alloc, text)?;
+    if part.stands_with(alloc, range, wrapped.as_str())? {
+        return Ok(wrapped);
+    }
+    String::from_str(alloc, text)
 }
 
-/// A range of a file that is an expression behind a text in front, with what is read of it.
-#[derive(Drop)]
-struct Part<'a> {
-    workspace: &'a Trees,
-    front: &'a str,
-    range: FileRange,
-    tree: Tree,
-    ghost begins: { is_boundary (text_around workspace.now range) range.range.start ≡ true },
-    ghost ends: { is_boundary (text_around workspace.now range) range.range.end ≡ true },
-    ghost read: { expression_of workspace.now.reach front.now (slice_range (text_around workspace.now range) range.range.start range.range.end) ≡ Some tree },
-    ghost short: { 2 + length front.now + length (slice_range (text_around workspace.now range) range.range.start range.range.end) < 2 ^ 32 },
+/// Each of the changes of a part as it stands alone.
+fn each_fitted(
+    alloc: Global,
+    part: &Part<'_>,
+    changes: &[(TextRange, String)],
+) -> Result<Vec<(TextRange, String)>, AllocError>
+    requires { All (FitsPart part.now.text.now part.now.range) (changes_of changes.now) }
+    ensures { IfOk result (λ fitted. changes_of fitted.items ≡ map (fitted_alone (stands_alone part.now)) (changes_of changes.now)) }
+{
+    let mut fitted = Vec::with_capacity(alloc, changes.len())?;
+    for (range, text) in changes {
+        let fit = fitted_alone(alloc, part, *range, text.as_str())?;
+        fitted.push((*range, fit))?;
+    }
+    Ok(fitted)
 }
 
-impl<'a> Part<'a> {
-    /// Whether the part with changes made is an expression that groups as before: what is read agrees around the changes.
-    fn stands(&self, alloc: Global, changes: &[(TextRange, String)]) -> Result<bool, AllocError>
-        requires { All (ChangeFits self.now.workspace.now self.now.range) (changes_of changes.now) }
-        ensures { IfOk result (λ answer. answer ≡ stands_in self.now.workspace.now self.now.front.now self.now.range (changes_of changes.now)) }
-    {
-        let text = replaced(alloc, self.workspace, self.range, changes)?;
-        let read = expression(alloc, self.workspace.reach(), self.front, text.as_str())?;
-        let Some(new) = read else {
-            return Ok(false);
-        };
-        let at = 1 + self.front.len() as u32;
-        let from = self.range.range.start;
-        let olds = old_ranges_from(alloc, changes, at, from)?;
-        let news = new_ranges_from(alloc, changes, at, from)?;
-        agree(alloc, &self.tree, &olds, &new, &news)
-    }
-
-    /// Whether one change stands.
-    fn stands_with(&self, alloc: Global, range: TextRange, text: &str) -> Result<bool, AllocError>
-        requires { FitsRange self.now.workspace.now self.now.range range.start range.end }
-        ensures { IfOk result (λ answer. answer ≡ stands_in self.now.workspace.now self.now.front.now self.now.range (change_with range text.now ∷ [])) }
-    {
-        let mut changes = Vec::with_capacity(alloc, 1)?;
-        changes.push((range, String::from_str(alloc, text)?))?;
-        self.stands(alloc, &changes)
-    }
-
-    /// The text of a change as it stands alone: as it is, or else in parentheses. What stands neither way stays as it is.
-    fn fitted(&self, alloc: Global, range: TextRange, text: &str) -> Result<String, AllocError>
-        requires { FitsRange self.now.workspace.now self.now.range range.start range.end }
-        ensures { IfOk result (λ new. change_with range (string_bytes new) ≡ fitted_alone (stands_in self.now.workspace.now self.now.front.now self.now.range) (change_with range text.now)) }
-    {
-        if self.stands_with(alloc, range, text)? {
-            return String::from_str(alloc, text);
-        }
-        let wrapped = in_parentheses(alloc, text)?;
-        if self.stands_with(alloc, range, wrapped.as_str())? {
-            return Ok(wrapped);
-        }
-        String::from_str(alloc, text)
-    }
-
-    /// Each of the changes as it stands alone.
-    fn each_fitted(
-        &self,
-        alloc: Global,
-        changes: &[(TextRange, String)],
-    ) -> Result<Vec<(TextRange, String)>, AllocError>
-        requires { All (ChangeFits self.now.workspace.now self.now.range) (changes_of changes.now) }
-        ensures { IfOk result (λ fitted. changes_of fitted.items ≡ map (fitted_alone (stands_in self.now.workspace.now self.now.front.now self.now.range)) (changes_of changes.now)) }
-    {
-        let mut fitted = Vec::with_capacity(alloc, changes.len())?;
-        for (range, text) in changes {
-            let fit = self.fitted(alloc, *range, text.as_str())?;
-            fitted.push((*range, fit))?;
-        }
-        Ok(fitted)
-    }
-}
-
-/// The changes that are made in a range of a file, behind a text in front: as they are, if the range groups as before with all of them,
+/// The changes that are made in a range of a text, behind a text in front: as they are, if the range groups as before with all of them,
 /// else each as it stands alone. Around a change of the whole range nothing stands, and nothing is read then. What isn't an expression
 /// isn't judged.
 pub(crate) fn fitted(
     alloc: Global,
-    workspace: &Trees,
+    reach: Reach,
     front: &str,
-    range: FileRange,
+    text: &str,
+    range: TextRange,
     changes: Vec<(TextRange, String)>,
 ) -> Result<Vec<(TextRange, String)>, AllocError>
-    requires begins { is_boundary (text_around workspace.now range) range.range.start ≡ true }
-    requires ends { is_boundary (text_around workspace.now range) range.range.end ≡ true }
-    requires changes { All (ChangeFits workspace.now range) (changes_of changes.items) }
-    ensures { IfOk result (λ fitted. changes_of fitted.items ≡ fitted_between workspace.now.reach front.now (text_around workspace.now range) range.range.start range.range.end (changes_of changes.items)) }
+    requires begins { IsCharBoundary text.now range.start }
+    requires ends { IsCharBoundary text.now range.end }
+    requires changes { All (FitsPart text.now range) (changes_of changes.items) }
+    ensures { IfOk result (λ fitted. changes_of fitted.items ≡ fitted_between reach front.now text.now range.start range.end (changes_of changes.items)) }
 {
-    if is_alone(front, range.range, &changes) {
+    if is_alone(front, range, &changes) {
         return Ok(changes);
     }
-    let text = between(workspace, range.file_id, range.range.start, range.range.end);
-    let read = expression(alloc, workspace.reach(), front, text)?;
+    let held = between(text, range.start, range.end);
+    let read = expression_behind(alloc, reach, front, held)?;
     let Some(tree) = read else {
         return Ok(changes);
     };
     let part = Part {
-        workspace,
+        reach,
         front,
+        text,
         range,
         tree,
     };
     if part.stands(alloc, &changes)? {
         return Ok(changes);
     }
-    part.each_fitted(alloc, &changes)
+    each_fitted(alloc, &part, &changes)
 }

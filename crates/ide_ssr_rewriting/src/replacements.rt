@@ -1,64 +1,32 @@
 //! What files and their comments give to what is written for a match.
 
-ghost use Rattle.std.specs.Prelude.{◌≡◌, ◌++◌, All, IfOk, IfSome, OnOk, option_map, slice_range, string_bytes, true};
+ghost use Rattle.std.specs.Prelude.{◌≡◌, ◌++◌, IfOk, IfSome, OnOk, option_map, string_bytes};
 ghost use Rattle.std.specs.Cow.{cow_str_bytes};
-ghost use Rattle.ssr_base_trees.specs.Applied.{changes_of};
-ghost use Rattle.ssr_base_trees.specs.Changes.{replaced};
-ghost use Rattle.ssr_base_trees.specs.Texts.{is_boundary};
 ghost use Rattle.ssr_base_trees.specs.Workspace.{file_span_of, trees};
 ghost use Rattle.ide_ssr_bindings.specs.Found.{IsMatch};
 ghost use Rattle.ide_ssr_rewriting.specs.Replacements.{comments_kept, file_text, held_text};
-ghost use Rattle.ide_ssr_rewriting.specs.Private.Replacements.{FitsFile, IsOf};
+ghost use Rattle.ide_ssr_rewriting.specs.Private.Replacements.{IsOf};
 
 use crate::clashes::{Rewrite, changes_made};
 use crate::comments::{kept_comments, push_comments};
 use crate::fitting::fitted;
 use ide_ssr_bindings::FoundMatch;
 use ssr_base_trees::{FileId, FileRange, Trees};
-use ssr_syntax_kinds::TextRange;
+use ssr_standing::{between, replaced};
 use std::alloc::{AllocError, Global};
 use std::borrow::CowStr;
 
-/// The bytes of a file from one place to another; none if these places are the other way round.
-pub(crate) fn between(workspace: &Trees, file: FileId, from: u32, to: u32) -> &str
-    requires from { is_boundary (file_text workspace.now file.0) from ≡ true }
-    requires to { is_boundary (file_text workspace.now file.0) to ≡ true }
-    ensures { result.now ≡ slice_range (file_text workspace.now file.0) from to }
+/// The text of a file; none where there is no such file.
+fn file_text(workspace: &Trees, file: FileId) -> &str
+    ensures { result.now ≡ file_text workspace.now file.0 }
 {
-    if to < from {
+    if file.0 >= workspace.file_count() {
         return "";
     }
-    let range = FileRange {
-        file_id: file,
-        range: TextRange::new(from, to),
-    };
-    match workspace.text(range) {
-        Some(text) => text,
+    match workspace.tree(file.0) {
+        Some(tree) => tree.source(),
         None => "",
     }
-}
-
-/// The text of a range with changes of its file made.
-pub(crate) fn replaced(
-    alloc: Global,
-    workspace: &Trees,
-    range: FileRange,
-    changes: &[(TextRange, String)],
-) -> Result<String, AllocError>
-    requires start { is_boundary (file_text workspace.now range.file_id.0) range.range.start ≡ true }
-    requires end { is_boundary (file_text workspace.now range.file_id.0) range.range.end ≡ true }
-    requires changes { All (FitsFile (file_text workspace.now range.file_id.0)) (changes_of changes.now) }
-    ensures { IfOk result (λ text. string_bytes text ≡ replaced (file_text workspace.now range.file_id.0) range.range.start range.range.end (changes_of changes.now)) }
-{
-    let mut text = String::new(alloc);
-    let mut at = range.range.start;
-    for (change, new) in changes {
-        text.push_str(between(workspace, range.file_id, at, change.start))?;
-        text.push_str(new.as_str())?;
-        at = change.end;
-    }
-    text.push_str(between(workspace, range.file_id, at, range.range.end))?;
-    Ok(text)
 }
 
 /// What a placeholder holds, which comes from this range, with the changes of a list made, some of them in parentheses so that it
@@ -76,14 +44,15 @@ pub(crate) fn held_text<'a>(
     let Some(range) = range else {
         return Ok(CowStr::Borrowed(""));
     };
+    let text = file_text(workspace, range.file_id);
     if list.is_empty() {
-        let text = between(workspace, range.file_id, range.range.start, range.range.end);
-        return Ok(CowStr::Borrowed(text));
+        let held = between(text, range.range.start, range.range.end);
+        return Ok(CowStr::Borrowed(held));
     }
     let made = changes_made(alloc, list)?;
-    let changes = fitted(alloc, workspace, front, range, made)?;
-    let text = replaced(alloc, workspace, range, &changes)?;
-    Ok(CowStr::Owned(text))
+    let changes = fitted(alloc, workspace.reach(), front, text, range.range, made)?;
+    let new = replaced(alloc, text, range.range, &changes)?;
+    Ok(CowStr::Owned(new))
 }
 
 /// Adds the comments that a match keeps.

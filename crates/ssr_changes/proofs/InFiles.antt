@@ -28,6 +28,7 @@ use Rattle.ssr_changes.specs.Changing.{AreChanges, Changed, FitsIn, IsWhy, all_c
 use Rattle.ssr_changes.specs.Files.{File}
 use Rattle.ssr_changes.specs.Private.Changing.{FitsTree}
 use Rattle.ssr_standing.specs.Expansions.{stands_in}
+use Rattle.ssr_standing.specs.Near.{stands_by}
 use Rattle.ssr_changes.specs.Standing.{falling, standing}
 
 -- ** The edits that are left.
@@ -84,16 +85,16 @@ none_left w new files n made all so_far =
 
 -- what comes of a file's changes is what changes in it
 pub change_is : (w v : Workspace) (n : ℕ) (file : File) (cs left : List Change) (c : FileChange) → v ≡ w → c.file ≡ n
-    → left ≡ spared file.reaches cs → c.edit ≡ standing (stands_in v n) left → string_bytes c.new ≡ replaced file.text 0 (length file.text) c.edit
-    → map bounds c.told.items ≡ told file.reaches cs → map bounds c.unread.items ≡ map bounds_of (falling (stands_in v n) left)
+    → left ≡ spared file.reaches cs → c.edit ≡ standing (stands_in v n) (stands_by v n) left → string_bytes c.new ≡ replaced file.text 0 (length file.text) c.edit
+    → map bounds c.told.items ≡ told file.reaches cs → map bounds c.unread.items ≡ map bounds_of (falling (stands_in v n) (stands_by v n) left)
     → shown c ≡ changed w n file cs
 change_is w v n file cs left c same numbered spares edits text tells unread =
     let rest : List Change = spared file.reaches cs in
-    let made : List Change = standing (stands_in w n) rest in
-    let edited : c.edit ≡ made = edits ∙ ap (standing (stands_in v n)) spares ∙ ap (λ (w : Workspace). standing (stands_in w n) rest) same in
-    let fell : map bounds c.unread.items ≡ map bounds_of (falling (stands_in w n) rest) =
-    unread ∙ ap (λ (cs : List Change). map bounds_of (falling (stands_in v n) cs)) spares
-    ∙ ap (λ (w : Workspace). map bounds_of (falling (stands_in w n) rest)) same in
+    let made : List Change = standing (stands_in w n) (stands_by w n) rest in
+    let edited : c.edit ≡ made = edits ∙ ap (standing (stands_in v n) (stands_by v n)) spares ∙ ap (λ (w : Workspace). standing (stands_in w n) (stands_by w n) rest) same in
+    let fell : map bounds c.unread.items ≡ map bounds_of (falling (stands_in w n) (stands_by w n) rest) =
+    unread ∙ ap (λ (cs : List Change). map bounds_of (falling (stands_in v n) (stands_by v n) cs)) spares
+    ∙ ap (λ (w : Workspace). map bounds_of (falling (stands_in w n) (stands_by w n) rest)) same in
     let of : ℕ → List Change → List ℕ → List (ℕ × ℕ) → List (ℕ × ℕ) → Changed =
     λ n edit new told unread. record { file = n; edit = edit; new = new; told = told; unread = unread } in
     ap (λ n. of n c.edit (string_bytes c.new) (map bounds c.told.items) (map bounds c.unread.items)) numbered

@@ -13,6 +13,7 @@ use Rattle.ssr_searching.specs.Searching.{Search, Changes, ComesToOnce, refuses,
 use Rattle.ssr_changes.specs.declared.changing.FileChange.{FileChange}
 use Rattle.ssr_changes.specs.Files.{File}
 use Rattle.ssr_standing.specs.Expansions.{stands_in}
+use Rattle.ssr_standing.specs.Near.{stands_by}
 use Rattle.ssr_changes.specs.Standing.{falling, standing}
 
 -- What changes in a file: the changes of its text, the text with them made, and the ranges of those that are not made: of those that
@@ -34,10 +35,10 @@ changed w n file cs =
     let left = spared file.reaches cs in
     record {
       file = n;
-      edit = standing (stands_in w n) left;
-      new = replaced file.text 0 (length file.text) (standing (stands_in w n) left);
+      edit = standing (stands_in w n) (stands_by w n) left;
+      new = replaced file.text 0 (length file.text) (standing (stands_in w n) (stands_by w n) left);
       told = told file.reaches cs;
-      unread = map bounds_of (falling (stands_in w n) left);
+      unread = map bounds_of (falling (stands_in w n) (stands_by w n) left);
     }
 
 -- what changes in a file, if a search has changes of it

@@ -32,9 +32,10 @@ pub struct FileChange {
 }
 
 /// What rules change, in the order of the files: of each file in which something is replaced, be it made or told. Where a file isn't
-/// read with all of its changes made, those are told that don't stand alone; if it isn't read with the others either, all. The names of
-/// the rules are looked up at the position; without ranges all is searched. A rule whose pattern is a placeholder alone is searched
-/// by its first kind alone. The error is that of the search.
+/// read with all of its changes made, those are told that don't stand by the nearest block around them. If it isn't read with the
+/// others either, those are told that don't stand alone in the file, or else all. The names of the rules are looked up at the position;
+/// without ranges all is searched. A rule whose pattern is a placeholder alone is searched by its first kind alone. The error is that of
+/// the search.
 pub fn changes<S: Semantics>(
     alloc: Global,
     files: &Searchable,

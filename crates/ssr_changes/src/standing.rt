@@ -4,10 +4,11 @@ ghost use Rattle.ssr_syntax_tree.specs.Syntax.{source_of};
 ghost use Rattle.ssr_base_trees.specs.Changes.{FitsText};
 ghost use Rattle.ssr_set_aside.specs.Sparing.{bounds, bounds_of};
 ghost use Rattle.ssr_standing.specs.Expansions.{stands_in};
+ghost use Rattle.ssr_standing.specs.Near.{stands_by};
 ghost use Rattle.ssr_changes.specs.Standing.{alone, falling, not_alone, standing};
 
 use ssr_base::TextEdit;
-use ssr_standing::SearchedFile;
+use ssr_standing::{Judge, SearchedFile};
 use ssr_syntax::TextRange;
 use std::alloc::{AllocError, Global};
 
@@ -20,16 +21,17 @@ pub(crate) struct Tried {
     pub(crate) unread: Vec<TextRange>,
 }
 
-/// Which changes of a searched text are made. Where it isn't read as before with all of them, each is tried alone, as it is and then
-/// in parentheses, and those that stand alone are tried together.
+/// Which changes of a searched text are made. Where it isn't read as before with all of them, each is tried by the nearest block around
+/// it, as it is and then in parentheses, and those that stand are tried together. If they don't stand together, each is tried alone in
+/// the whole text in place of that.
 pub(crate) fn standing(
     alloc: Global,
     file: &SearchedFile<'_>,
     edit: TextEdit,
 ) -> Result<Tried, AllocError>
     requires { All (FitsText (source_of file.now.tree.now)) edit }
-    ensures made { IfOk result (λ answer. answer.edit ≡ standing (stands_in file.now.trees.now file.now.number) edit) }
-    ensures unread { IfOk result (λ answer. map bounds answer.unread.items ≡ map bounds_of (falling (stands_in file.now.trees.now file.now.number) edit)) }
+    ensures made { IfOk result (λ answer. answer.edit ≡ standing (stands_in file.now.trees.now file.now.number) (stands_by file.now.trees.now file.now.number) edit) }
+    ensures unread { IfOk result (λ answer. map bounds answer.unread.items ≡ map bounds_of (falling (stands_in file.now.trees.now file.now.number) (stands_by file.now.trees.now file.now.number) edit)) }
 {
     if file.stands(alloc, &edit)? {
         return Ok(Tried {
@@ -37,7 +39,11 @@ pub(crate) fn standing(
             unread: Vec::new(alloc),
         });
     }
-    let alone = standing_alone(alloc, file, &edit)?;
+    let near = standing_alone(alloc, file, Judge::Block, &edit)?;
+    if file.stands(alloc, &near.edit)? {
+        return Ok(near);
+    }
+    let alone = standing_alone(alloc, file, Judge::File, &edit)?;
     if file.stands(alloc, &alone.edit)? {
         return Ok(alone);
     }
@@ -47,20 +53,21 @@ pub(crate) fn standing(
     })
 }
 
-/// The changes of an edit that stand alone, and the others.
+/// The changes of an edit that stand alone by what they are judged by, and the others.
 fn standing_alone(
     alloc: Global,
     file: &SearchedFile<'_>,
+    judge: Judge,
     edit: &TextEdit,
 ) -> Result<Tried, AllocError>
     requires { All (FitsText (source_of file.now.tree.now)) edit.now }
-    ensures made { IfOk result (λ answer. answer.edit ≡ alone (stands_in file.now.trees.now file.now.number) edit.now) }
-    ensures unread { IfOk result (λ answer. map bounds answer.unread.items ≡ map bounds_of (not_alone (stands_in file.now.trees.now file.now.number) edit.now)) }
+    ensures made { IfOk result (λ answer. answer.edit ≡ alone (stands_by file.now.trees.now file.now.number judge) edit.now) }
+    ensures unread { IfOk result (λ answer. map bounds answer.unread.items ≡ map bounds_of (not_alone (stands_by file.now.trees.now file.now.number judge) edit.now)) }
 {
     let mut made = Vec::new(alloc);
     let mut unread = Vec::new(alloc);
     for (range, text) in edit.iter().as_slice() {
-        match file.fitted(alloc, *range, text.as_str())? {
+        match file.fitted(alloc, judge, *range, text.as_str())? {
             Some(text) => made.push((*range, text))?,
             None => unread.push(*range)?,
         }

@@ -8,8 +8,10 @@ mod Alike
 mod SameMarks
 mod Places
 mod Standings
+mod PartChanges
 mod Spelled
 mod Calls
+mod Nearest
 mod Below
 mod CodeEnds
 pub mod Shared

@@ -3,3 +3,5 @@
 -- where the texts of changes stand in a part of a text
 pub use Rattle.ssr_standing.proofs.Places.{BeginsIn}
 pub use Rattle.ssr_standing.proofs.Standings.{if_ok_same, part_short}
+-- when changes stand in a part
+pub use Rattle.ssr_standing.proofs.PartChanges.{in_text, stands_as}

@@ -119,7 +119,7 @@ both_agree old new = option_map_or (λ one. option_map_or (agree_both one) new f
 abbrev pub call_of : Workspace → ℕ → Option FileSpan
 call_of w t = option_and_then (original_range (trees w)) (above (trees w) (node_id t 0))
 
--- a place has bytes of a call alone, and not all of them
+-- a place has bytes of a call alone, and not all of them; or of a node
 abbrev pub is_inside : Span → Span → Bool
 is_inside call place = has place.start place.end call && not (has call.start call.end place)
 

@@ -1,5 +1,5 @@
--- A change that stands alone, in parentheses where it stands only so.
-use Rattle.std.specs.Prelude.{◌≡◌, Bool, false, true, if◌then◌else◌, ℕ, List, [], ◌∷◌, Option, None, Some}
+-- A change that stands by some test, in parentheses where it stands only so.
+use Rattle.std.specs.Prelude.{◌≡◌, Bool, false, true, if◌then◌else◌, ℕ, List, Option, None, Some}
 use Rattle.ssr_syntax_kinds.specs.declared.range.TextRange.{TextRange}
 use Rattle.ssr_base_trees.specs.Changes.{Change}
 use Rattle.ssr_standing.specs.Code.{parenthesized}
@@ -12,11 +12,11 @@ change_with range text = record { start = range.start; end = range.end; text = t
 abbrev pub in_parentheses : Change → Change
 in_parentheses c = record { start = c.start; end = c.end; text = parenthesized c.text }
 
--- a change as it is, if it stands alone, else in parentheses
-abbrev pub fitted : (List Change → Bool) → Change → Change
-fitted stands c = if stands (c ∷ []) then c else in_parentheses c
+-- a change as it is, if it stands, else in parentheses
+abbrev pub fitted : (Change → Bool) → Change → Change
+fitted stands c = if stands c then c else in_parentheses c
 
--- the text of a change as it stands alone; none where it doesn't
-abbrev pub IsFitted : (List Change → Bool) → Change → Option (List ℕ) → Type 0
-IsFitted stands c None = stands (fitted stands c ∷ []) ≡ false
-IsFitted stands c (Some text) = (fitted stands c ≡ record { start = c.start; end = c.end; text = text }) × (stands (fitted stands c ∷ []) ≡ true)
+-- the text of a change as it stands; none where it doesn't
+abbrev pub IsFitted : (Change → Bool) → Change → Option (List ℕ) → Type 0
+IsFitted stands c None = stands (fitted stands c) ≡ false
+IsFitted stands c (Some text) = (fitted stands c ≡ record { start = c.start; end = c.end; text = text }) × (stands (fitted stands c) ≡ true)

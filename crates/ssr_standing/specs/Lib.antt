@@ -4,5 +4,7 @@ pub mod Ranges
 pub mod Code
 pub mod Fitted
 pub mod Standing
+pub mod Parts
 pub mod Expansions
+pub mod Near
 pub mod Private

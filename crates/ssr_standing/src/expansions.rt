@@ -247,6 +247,22 @@ impl<'a> Edited<'a> {
 }
 
 impl<'a> SearchedFile<'a> {
+    /// Whether what each call of a macro in the file stands for groups as before with an edit of its text made.
+    pub(crate) fn calls_stand(&self, alloc: Global, edit: &TextEdit) -> Result<bool, AllocError>
+        requires { All (FitsText (source_of self.now.tree.now)) edit.now }
+        ensures { IfOk result (λ answer. answer ≡ first_stand self.now.trees.now self.now.number self.now.tree.now edit.now (length self.now.trees.now.expansions)) }
+    {
+        let ranges = old_ranges(alloc, edit)?;
+        let old = as_they_are(alloc, self.tree, edit)?;
+        let edited = Edited {
+            file: self,
+            edit,
+            ranges: &ranges,
+            old: &old,
+        };
+        edited.all_stand(alloc)
+    }
+
     /// Whether an edit of the file's text stands: as `stands` says, and of each call of a macro in which something is replaced, what
     /// it stands for is read with the changes made, and groups as it did. So `assert!(2 * 7 == x)` doesn't stand as
     /// `assert!(2 * 3 + 4 == x)`, though the tokens of its arguments are no nodes of the file.
@@ -258,14 +274,6 @@ impl<'a> SearchedFile<'a> {
         if !text_stands {
             return Ok(false);
         }
-        let ranges = old_ranges(alloc, edit)?;
-        let old = as_they_are(alloc, self.tree, edit)?;
-        let edited = Edited {
-            file: self,
-            edit,
-            ranges: &ranges,
-            old: &old,
-        };
-        edited.all_stand(alloc)
+        self.calls_stand(alloc, edit)
     }
 }

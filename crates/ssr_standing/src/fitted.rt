@@ -1,10 +1,10 @@
-//! A change of a file as it stands alone: as it is, or else in parentheses.
-ghost use Rattle.std.specs.Prelude.{◌≡◌, ◌≤◌, [], ◌∷◌, IfOk, string_bytes};
+//! A change of a file as it stands: as it is, or else in parentheses.
+ghost use Rattle.std.specs.Prelude.{◌≡◌, [], ◌∷◌, IfOk, string_bytes};
 ghost use Rattle.std.specs.Option.{option_map};
 ghost use Rattle.ssr_syntax_tree.specs.Syntax.{source_of};
 ghost use Rattle.ssr_base_trees.specs.Changes.{FitsText};
-ghost use Rattle.ssr_standing.specs.Expansions.{stands_in};
 ghost use Rattle.ssr_standing.specs.Fitted.{IsFitted, change_with};
+ghost use Rattle.ssr_standing.specs.Near.{stands_by};
 
 use crate::code::in_parentheses;
 use crate::expansions::SearchedFile;
@@ -12,9 +12,17 @@ use ssr_base_trees::TextEdit;
 use ssr_syntax_kinds::TextRange;
 use std::alloc::{AllocError, Global};
 
+/// What a change is judged by.
+#[derive(Clone, Copy)]
+pub enum Judge {
+    /// The nearest block around it.
+    Block,
+    /// The whole file, with this change alone.
+    File,
+}
+
 /// The edit that makes one change.
-fn single(alloc: Global, range: TextRange, text: &str) -> Result<TextEdit, AllocError>
-    requires { range.start ≤ range.end }
+pub(crate) fn single(alloc: Global, range: TextRange, text: &str) -> Result<TextEdit, AllocError>
     ensures { IfOk result (λ edit. edit ≡ change_with range text.now ∷ []) }
 {
     let mut changes = Vec::with_capacity(alloc, 1)?;
@@ -23,31 +31,39 @@ fn single(alloc: Global, range: TextRange, text: &str) -> Result<TextEdit, Alloc
 }
 
 impl<'a> SearchedFile<'a> {
-    /// Whether one change stands.
-    fn stands_with(&self, alloc: Global, range: TextRange, text: &str) -> Result<bool, AllocError>
-        requires order { range.start ≤ range.end }
-        requires fits { FitsText (source_of self.now.tree.now) (change_with range text.now) }
-        ensures { IfOk result (λ answer. answer ≡ stands_in self.now.trees.now self.now.number (change_with range text.now ∷ [])) }
+    /// Whether one change stands by what it is judged by.
+    fn stands_by(
+        &self,
+        alloc: Global,
+        judge: Judge,
+        range: TextRange,
+        text: &str,
+    ) -> Result<bool, AllocError>
+        requires { FitsText (source_of self.now.tree.now) (change_with range text.now) }
+        ensures { IfOk result (λ answer. answer ≡ stands_by self.now.trees.now self.now.number judge (change_with range text.now)) }
     {
-        self.stands(alloc, &single(alloc, range, text)?)
+        match judge {
+            Judge::Block => self.stands_near(alloc, range, text),
+            Judge::File => self.stands(alloc, &single(alloc, range, text)?),
+        }
     }
 
-    /// The text of a change as it stands alone, if it does: as it is, or else in parentheses.
+    /// The text of a change as it stands by what it is judged by, if it does: as it is, or else in parentheses.
     pub fn fitted(
         &self,
         alloc: Global,
+        judge: Judge,
         range: TextRange,
         text: &str,
     ) -> Result<Option<String>, AllocError>
-        requires order { range.start ≤ range.end }
-        requires fits { FitsText (source_of self.now.tree.now) (change_with range text.now) }
-        ensures { IfOk result (λ fitted. IsFitted (stands_in self.now.trees.now self.now.number) (change_with range text.now) (option_map string_bytes fitted)) }
+        requires { FitsText (source_of self.now.tree.now) (change_with range text.now) }
+        ensures { IfOk result (λ fitted. IsFitted (stands_by self.now.trees.now self.now.number judge) (change_with range text.now) (option_map string_bytes fitted)) }
     {
-        if self.stands_with(alloc, range, text)? {
+        if self.stands_by(alloc, judge, range, text)? {
             return Ok(Some(String::from_str(alloc, text)?));
         }
         let wrapped = in_parentheses(alloc, text)?;
-        if self.stands_with(alloc, range, wrapped.as_str())? {
+        if self.stands_by(alloc, judge, range, wrapped.as_str())? {
             return Ok(Some(wrapped));
         }
         Ok(None)

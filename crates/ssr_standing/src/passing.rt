@@ -2,7 +2,7 @@
 ghost use Rattle.std.specs.Prelude.{◌≡◌, map};
 ghost use Rattle.ssr_syntax_tree.specs.Places.{HasElement, part_of};
 ghost use Rattle.ssr_base_trees.specs.Origins.{plain_origin, span_of};
-ghost use Rattle.ssr_standing.specs.Around.{hole_at, hole_of, passed};
+ghost use Rattle.ssr_standing.specs.Around.{has, hole_at, hole_of, passed};
 ghost use Rattle.ssr_standing.specs.Expansions.{change_of, has_change, is_inside};
 ghost use Rattle.ssr_standing.specs.Private.Passing.{is_clear};
 
@@ -19,13 +19,18 @@ pub(crate) struct Passing<'a> {
     ghost known: { count ≡ passed (map span_of places.now) byte },
 }
 
-/// Whether a call has this place in it, and more.
-fn is_inside(call: TextRange, place: TextRange) -> bool
+/// Whether a range has the bytes of a place.
+pub(crate) fn has(range: TextRange, place: TextRange) -> bool
+    ensures { result ≡ has place.start place.end (span_of range) }
+{
+    range.start <= place.start && place.end <= range.end
+}
+
+/// Whether a call or a node has this place in it, and more.
+pub(crate) fn is_inside(call: TextRange, place: TextRange) -> bool
     ensures { result ≡ is_inside (span_of call) (span_of place) }
 {
-    call.start <= place.start
-        && place.end <= call.end
-        && !(place.start <= call.start && call.end <= place.end)
+    has(call, place) && !has(place, call)
 }
 
 impl<'a> Passing<'a> {

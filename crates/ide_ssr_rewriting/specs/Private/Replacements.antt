@@ -1,16 +1,10 @@
 -- Private: what is asked of matches and of their lists so that they can be written.
 use Rattle.std.specs.Prelude.{ℕ, ◌≡◌, true, List, All}
-use Rattle.ssr_base_trees.specs.Changes.{Change}
 use Rattle.ssr_base_trees.specs.Laws.{LiesIn}
 use Rattle.ssr_base_trees.specs.Texts.{is_boundary}
 use Rattle.ssr_base_trees.specs.Workspace.{FileSpan, Workspace}
 use Rattle.ide_ssr_rewriting.specs.Clashes.{Rewrite}
 use Rattle.ide_ssr_rewriting.specs.Replacements.{file_text}
-
--- a change is one between characters of a text
-pub record FitsFile (text : List ℕ) (change : Change) : Type 0 where
-  pub begins : is_boundary text change.start ≡ true
-  pub ends : is_boundary text change.end ≡ true
 
 -- a range lies between characters of its file
 pub record FitsItsFile (w : Workspace) (range : FileSpan) : Type 0 where

@@ -4,21 +4,21 @@ use Rattle.ssr_syntax_tree.specs.Syntax.{source_of}
 use Rattle.ssr_base_trees.specs.Applied.{change_of, changes_of}
 use Rattle.ssr_base_trees.specs.Changes.{Change, ChangesInOrder}
 use Rattle.ssr_base_trees.proofs.Changes.{fits_here, shown}
-use Rattle.ssr_standing.specs.Expansions.{stands_in}
+use Rattle.ssr_standing.specs.Near.{stands_by}
 use Rattle.ssr_standing.specs.Fitted.{change_with}
 use Rattle.ide_ssr_rewriting.specs.Fitting.{fitted_alone}
 use Rattle.ide_ssr_rewriting.proofs.Fittings.{one_fitted, order_alone}
 use Rattle.ide_ssr_rewriting.proofs.files.each_fitted.Goals as goal
 
-pub fitted-requires-clause-fits : goal.fitted-requires-clause-fits
-fitted-requires-clause-fits c =
+pub fitted-requires : goal.fitted-requires
+fitted-requires c =
     fits_here (source_of c.args.file.now.tree.now) c.as_slice-range-items.result.now c.args.edit.now c.loop-range.range-index c.loop-range-item.result
     c.loop-range-test.true c.loop-range-item.is (shown c.as_slice-range-items.ensures.value c.iter.ensures.items) c.requires
 
 pub loop-range-preserved : goal.loop-range-preserved
 loop-range-preserved c =
     let item = c.loop-range-item.result in
-    let fit : Change → Change = fitted_alone (stands_in c.args.file.now.trees.now c.args.file.now.number) in
+    let fit : Change → Change = fitted_alone (stands_by c.args.file.now.trees.now c.args.file.now.number c.args.judge) in
     one_fitted fit c.as_slice-range-items.result.now c.loop-range.range-index item c.in_ok-fit.fit c.loop-range.changes.items c.push.new.self.items
     c.loop-range-test.true c.loop-range-item.is c.in_ok-push.ensures.items
     (c.in_ok-fit.ensures ∙ ap (λ (text : List ℕ). fit (change_with item.0 text)) c.as_str.ensures.value) c.loop-range.invariant
@@ -27,7 +27,7 @@ loop-range-preserved c =
 made : goal.new-requires
 made c =
     let pairs = c.as_slice-range-items.result.now in
-    let stands = stands_in c.args.file.now.trees.now c.args.file.now.number in
+    let stands = stands_by c.args.file.now.trees.now c.args.file.now.number c.args.judge in
     subst (ChangesInOrder 0) (sym (c.loop-range.invariant ∙ ap (map (fitted_alone stands)) (take_all c.loop-range.range-index (changes_of pairs) (omega (arith, length-map pairs change_of)))))
     (order_alone stands 0 (changes_of pairs) (subst (ChangesInOrder 0) (sym (shown c.as_slice-range-items.ensures.value c.iter.ensures.items)) c.iter.ensures.order))
 
@@ -37,7 +37,7 @@ new-requires c = made c
 pub returns : goal.returns
 returns c =
     let pairs = c.as_slice-range-items.result.now in
-    let stands = stands_in c.args.file.now.trees.now c.args.file.now.number in
+    let stands = stands_by c.args.file.now.trees.now c.args.file.now.number c.args.judge in
     c.new.ensures ∙ c.loop-range.invariant
     ∙ ap (map (fitted_alone stands)) (take_all c.loop-range.range-index (changes_of pairs) (omega (arith, length-map pairs change_of))
     ∙ shown c.as_slice-range-items.ensures.value c.iter.ensures.items)

@@ -1,12 +1,9 @@
-use Rattle.std.proofs.Common.{◌≡◌, List, All, Some, map, slice_get, sym, ◌∙◌, subst}
+use Rattle.std.proofs.Common.{◌≡◌, List, All, Some, slice_get, sym, ◌∙◌, subst}
 use Rattle.std.proofs.lemmas.Option.{slice_get_within}
-use Rattle.std.proofs.lemmas.Result.{IfOk-weaker}
 use Rattle.ssr_syntax_tree.specs.Syntax.{Syntax, source_of}
-use Rattle.ssr_base_trees.specs.Changes.{Change, FitsText}
+use Rattle.ssr_base_trees.specs.Changes.{FitsText}
 use Rattle.ssr_base_trees.proofs.Shared.{file_there, none_there}
-use Rattle.ssr_standing.specs.Expansions.{stands_in}
-use Rattle.ide_ssr_rewriting.specs.Fitting.{fitted_alone, fitted_in}
-use Rattle.ide_ssr_rewriting.proofs.Fittings.{all_stay, each_alone}
+use Rattle.ide_ssr_rewriting.specs.Fitting.{fitted_in}
 use Rattle.ide_ssr_rewriting.proofs.files.fitted_in.Goals as goal
 
 pub unreachable-requires : goal.unreachable-requires
@@ -20,21 +17,14 @@ invariant_of-searched c =
     let w = c.args.workspace.now in
     record { there = file_there w c.args.file.0 c.in-Some.tree.now (slice_get_within w.files c.args.file.0 c.requires.0 c.requires.1) c.in-Some.ensures }
 
-pub stands-requires : goal.stands-requires
-stands-requires c =
+pub all_fitted-requires : goal.all_fitted-requires
+all_fitted-requires c =
     let w = c.args.workspace.now in
     let tree = c.in-Some.tree.now in
     let here : slice_get w.files c.args.file.0 ≡ Some tree = file_there w c.args.file.0 tree (slice_get_within w.files c.args.file.0 c.requires.0 c.requires.1) c.in-Some.ensures in
     let same : c.requires.0 ≡ tree = cc (sym c.requires.1 ∙ here) in
     subst (λ (t : Syntax). All (FitsText (source_of t)) c.args.edit) same c.requires.2
 
-pub returns-then-branch : goal.returns-then-branch
-returns-then-branch c = all_stay c.args.workspace.now c.args.file.0 c.args.edit (sym c.in_ok-stands.ensures ∙ c.if-branch.true)
-
 pub returns : goal.returns
-returns c =
-    let w = c.args.workspace.now in
-    let n = c.args.file.0 in
-    IfOk-weaker c.each_fitted.result (λ (new : List Change). new ≡ map (fitted_alone (stands_in w n)) c.args.edit) (λ (new : List Change). new ≡ fitted_in w n c.args.edit)
-    (λ new is. is ∙ each_alone w n c.args.edit (sym c.in_ok-stands.ensures ∙ c.if-branch.false))
-    c.each_fitted.ensures
+unfolding fitted_in
+returns c = c.all_fitted.ensures

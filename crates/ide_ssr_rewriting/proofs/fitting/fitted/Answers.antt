@@ -1,22 +1,22 @@
-use Rattle.std.proofs.Common.{◌≡◌, ◌∙◌, List, ℕ, Vec, String, ap, map, sym}
+use Rattle.std.proofs.Common.{◌≡◌, ◌∙◌, List, [], ◌∷◌, ℕ, Vec, String, ap, map, sym}
 use Rattle.std.specs.Global.{Global}
 use Rattle.std.proofs.lemmas.Result.{IfOk-weaker}
 use Rattle.ssr_syntax_kinds.specs.declared.range.TextRange.{TextRange}
 use Rattle.ssr_syntax_kinds.specs.declared.reach.Reach.{Reach}
 use Rattle.ssr_base_trees.specs.Applied.{changes_of}
 use Rattle.ssr_base_trees.specs.Changes.{Change}
-use Rattle.ide_ssr_rewriting.specs.Fitting.{expression_of, fitted_alone, fitted_between, is_alone, stands_between}
-use Rattle.ide_ssr_rewriting.specs.Private.Fitting.{text_around}
+use Rattle.ssr_standing.specs.Parts.{expression_of, stands_between}
+use Rattle.ide_ssr_rewriting.specs.Fitting.{fitted_alone, fitted_between, is_alone}
 use Rattle.ide_ssr_rewriting.proofs.Fittings.{alone_fitted, each_fitted, standing_fitted, unread_fitted}
 use Rattle.ide_ssr_rewriting.proofs.fitting.fitted.Goals as goal
 
 pub returns-then-is_alone : goal.returns-then-is_alone
 returns-then-is_alone c =
-    let reach : Reach = c.args.workspace.now.reach in
+    let reach : Reach = c.args.reach in
     let front : List ℕ = c.args.front.now in
-    let text : List ℕ = text_around c.args.workspace.now c.args.range in
-    let from : ℕ = c.args.range.range.start in
-    let to : ℕ = c.args.range.range.end in
+    let text : List ℕ = c.args.text.now in
+    let from : ℕ = c.args.range.start in
+    let to : ℕ = c.args.range.end in
     sym
     (alone_fitted reach front text from to (changes_of c.args.changes.items)
     (ap (λ (ps : List (TextRange × String Global)). is_alone front from to (changes_of ps)) (sym c.deref.ensures.value)
@@ -24,25 +24,24 @@ returns-then-is_alone c =
 
 pub returns-in_default : goal.returns-in_default
 returns-in_default c =
-    let reach : Reach = c.args.workspace.now.reach in
+    let reach : Reach = c.args.reach in
     let front : List ℕ = c.args.front.now in
-    let text : List ℕ = text_around c.args.workspace.now c.args.range in
-    let from : ℕ = c.args.range.range.start in
-    let to : ℕ = c.args.range.range.end in
+    let text : List ℕ = c.args.text.now in
+    let from : ℕ = c.args.range.start in
+    let to : ℕ = c.args.range.end in
     sym
     (unread_fitted reach front text from to (changes_of c.args.changes.items)
     (ap (λ (ps : List (TextRange × String Global)). is_alone front from to (changes_of ps)) (sym c.deref.ensures.value)
     ∙ sym c.is_alone.ensures ∙ c.if-is_alone.false)
-    (ap (expression_of reach front) (sym c.between-text.ensures)
-    ∙ ap (λ (r : Reach). expression_of r front c.between-text.result.now) (sym c.reach.ensures) ∙ sym c.in_ok-read.ensures.tree ∙ c.in_default.is))
+    (ap (expression_of reach front) (sym c.between-held.ensures) ∙ sym c.in_ok-read.ensures.tree ∙ c.in_default.is))
 
 pub returns-then-branch : goal.returns-then-branch
 returns-then-branch c =
-    let reach : Reach = c.args.workspace.now.reach in
+    let reach : Reach = c.args.reach in
     let front : List ℕ = c.args.front.now in
-    let text : List ℕ = text_around c.args.workspace.now c.args.range in
-    let from : ℕ = c.args.range.range.start in
-    let to : ℕ = c.args.range.range.end in
+    let text : List ℕ = c.args.text.now in
+    let from : ℕ = c.args.range.start in
+    let to : ℕ = c.args.range.end in
     sym
     (standing_fitted reach front text from to (changes_of c.args.changes.items)
     (ap (λ (ps : List (TextRange × String Global)). is_alone front from to (changes_of ps)) (sym c.deref.ensures.value)
@@ -52,12 +51,12 @@ returns-then-branch c =
 
 pub returns : goal.returns
 returns c =
-    let reach : Reach = c.args.workspace.now.reach in
+    let reach : Reach = c.args.reach in
     let front : List ℕ = c.args.front.now in
-    let text : List ℕ = text_around c.args.workspace.now c.args.range in
-    let from : ℕ = c.args.range.range.start in
-    let to : ℕ = c.args.range.range.end in
-    let each : List Change → List Change = map (fitted_alone (stands_between reach front text from to)) in
+    let text : List ℕ = c.args.text.now in
+    let from : ℕ = c.args.range.start in
+    let to : ℕ = c.args.range.end in
+    let each : List Change → List Change = map (fitted_alone (λ c. stands_between reach front text from to (c ∷ []))) in
     let made =
     sym
     (each_fitted reach front text from to (changes_of c.args.changes.items)

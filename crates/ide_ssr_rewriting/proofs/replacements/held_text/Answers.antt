@@ -1,28 +1,67 @@
-use Rattle.std.proofs.Common.{◌∙◌, List, ap, arith, subst, sym}
-use Rattle.std.specs.Prelude.{All}
+use Rattle.std.proofs.Common.{◌≡◌, ◌∙◌, List, ℕ, ap, arith, subst, sym}
+use Rattle.std.specs.Prelude.{All, Option, option_map, slice_range}
 use Rattle.std.proofs.lemmas.Bool.{eqb-true}
+use Rattle.ssr_syntax_kinds.specs.declared.reach.Reach.{Reach}
+use Rattle.ssr_base_trees.specs.declared.ids.FileRange.{FileRange}
+use Rattle.ssr_base_trees.specs.Workspace.{file_span_of}
 use Rattle.ssr_base_trees.specs.Applied.{changes_of}
-use Rattle.ssr_base_trees.specs.Changes.{Change}
-use Rattle.ide_ssr_rewriting.specs.Replacements.{file_text}
-use Rattle.ide_ssr_rewriting.specs.Private.Replacements.{FitsFile}
-use Rattle.ide_ssr_rewriting.proofs.Fittings.{empty_held, fits_between, in_file}
-use Rattle.ide_ssr_rewriting.proofs.Written.{changes_fit}
+use Rattle.ssr_base_trees.specs.Changes.{Change, FitsText, replaced}
+use Rattle.ssr_standing.proofs.Shared.{in_text}
+use Rattle.ide_ssr_rewriting.specs.Clashes.{Rewrite, changes_made}
+use Rattle.ide_ssr_rewriting.specs.Fitting.{fitted_between}
+use Rattle.ide_ssr_rewriting.specs.Replacements.{held_text}
+use Rattle.ide_ssr_rewriting.proofs.Fittings.{empty_held, fits_between}
+use Rattle.ide_ssr_rewriting.proofs.Written.{begins_between, changes_fit, ends_between}
 use Rattle.ide_ssr_rewriting.proofs.replacements.held_text.Goals as goal
 
-pub fitted-requires-clause-changes : goal.fitted-requires-clause-changes
-fitted-requires-clause-changes c =
-    changes_fit c.args.workspace.now c.in-Some.range c.args.range c.args.list.items _ c.in-Some.is c.requires c.in_ok-made.ensures
+pub between-held-requires : goal.between-held-requires
+between-held-requires c = record {
+  from = begins_between c.args.workspace.now c.in-Some.range c.args.range c.args.list.items c.in-Some.is c.requires c.file_text-text.result.now c.file_text-text.ensures;
+  to = ends_between c.args.workspace.now c.in-Some.range c.args.range c.args.list.items c.in-Some.is c.requires c.file_text-text.result.now c.file_text-text.ensures;
+}
 
-pub replaced-requires-clause-changes : goal.replaced-requires-clause-changes
-replaced-requires-clause-changes c =
-    let text = file_text c.args.workspace.now c.in-Some.range.file_id.0 in
+pub fitted-requires : goal.fitted-requires
+fitted-requires c = record {
+  begins = begins_between c.args.workspace.now c.in-Some.range c.args.range c.args.list.items c.in-Some.is c.requires c.file_text-text.result.now c.file_text-text.ensures;
+  ends = ends_between c.args.workspace.now c.in-Some.range c.args.range c.args.list.items c.in-Some.is c.requires c.file_text-text.result.now c.file_text-text.ensures;
+  changes = changes_fit c.args.workspace.now c.in-Some.range c.args.range c.args.list.items c.in-Some.is c.requires c.file_text-text.result.now c.file_text-text.ensures
+      (changes_of c.in_ok-made.made.items) c.in_ok-made.ensures;
+}
+
+pub replaced-requires : goal.replaced-requires
+replaced-requires c =
+    let w = c.args.workspace.now in
+    let range = c.in-Some.range in
+    let text : List ℕ = c.file_text-text.result.now in
     let made : List Change = changes_of c.in_ok-made.made.items in
-    subst (All (FitsFile text)) (sym (ap changes_of c.deref.ensures.value ∙ c.in_ok-changes.ensures))
-    (fits_between c.args.workspace.now.reach c.args.front.now text c.in-Some.range.range.start c.in-Some.range.range.end made (in_file c.args.workspace.now c.in-Some.range made
-    (changes_fit c.args.workspace.now c.in-Some.range c.args.range c.args.list.items made c.in-Some.is c.requires c.in_ok-made.ensures)))
+    record {
+      start = begins_between w range c.args.range c.args.list.items c.in-Some.is c.requires text c.file_text-text.ensures;
+      end = ends_between w range c.args.range c.args.list.items c.in-Some.is c.requires text c.file_text-text.ensures;
+      changes =
+          subst (All (FitsText text)) (sym (ap changes_of c.deref.ensures.value ∙ c.in_ok-changes.ensures))
+          (fits_between c.reach.result c.args.front.now text range.range.start range.range.end made
+          (in_text text range.range made
+          (changes_fit w range c.args.range c.args.list.items c.in-Some.is c.requires text c.file_text-text.ensures made c.in_ok-made.ensures)));
+    }
 
 pub returns-then-is_empty : goal.returns-then-is_empty
 returns-then-is_empty c =
-    c.between-text.ensures
-    ∙ empty_held c.args.workspace.now c.args.front.now c.in-Some.range c.args.range c.args.list.items c.in-Some.is
+    let range = c.in-Some.range in
+    c.between-held.ensures ∙ ap (λ (text : List ℕ). slice_range text range.range.start range.range.end) c.file_text-text.ensures
+    ∙ empty_held c.args.workspace.now c.args.front.now range c.args.range c.args.list.items c.in-Some.is
     (omega (arith, c.args.list.ok.0, eqb-true c.args.list.len 0 (sym c.is_empty.ensures ∙ c.if-is_empty.true)))
+
+pub returns : goal.returns
+returns c =
+    let w = c.args.workspace.now in
+    let front : List ℕ = c.args.front.now in
+    let text : List ℕ = c.file_text-text.result.now in
+    let list : List Rewrite = c.args.list.items in
+    let from : ℕ = c.in-Some.range.range.start in
+    let to : ℕ = c.in-Some.range.range.end in
+    c.in_ok-new.ensures
+    ∙ ap (replaced text from to)
+    (ap changes_of c.deref.ensures.value ∙ c.in_ok-changes.ensures ∙ ap (fitted_between c.reach.result front text from to) c.in_ok-made.ensures
+    ∙ ap (λ (r : Reach). fitted_between r front text from to (changes_made list)) c.reach.ensures)
+    ∙ ap (λ (text : List ℕ). replaced text from to (fitted_between w.reach front text from to (changes_made list))) c.file_text-text.ensures
+    ∙ ap (λ (o : Option FileRange). held_text w front (option_map file_span_of o) list) (sym c.in-Some.is)

@@ -8,6 +8,7 @@ use Rattle.ssr_base_trees.specs.Workspace.{Workspace, tree_of}
 use Rattle.ssr_set_aside.specs.Sparing.{spared, told, touches_aside}
 use Rattle.ssr_changes.specs.declared.changing.FileChange.{FileChange}
 use Rattle.ssr_standing.specs.Expansions.{stands_in}
+use Rattle.ssr_standing.specs.Near.{stands_by}
 use Rattle.ssr_changes.proofs.FileLists.{none_there, tree_there}
 use Rattle.ssr_changes.proofs.InFiles.{change_is, fits_in}
 use Rattle.ssr_changes.proofs.Standings.{fits_standing}
@@ -54,7 +55,7 @@ unreachable-requires-in-Err-Range c =
     c.in_ok-edit.ensures.fits there.text (record { tree = c.requires.fits.0; aside = there.aside; reaches = there.reaches; unsearched = there.unsearched }) (sym c.reaches.ensures)
     (c.file-there.ensures.searched c.requires.fits.0 c.requires.fits.1) c.requires.fits.2 in
     let made : All (FitsText there.text) c.in_ok-edit-2.field-0.edit =
-    subst (All (FitsText there.text)) (sym c.in_ok-edit-2.ensures.made) (fits_standing (stands_in c.trees.result.now c.args.file) left there.text fit) in
+    subst (All (FitsText there.text)) (sym c.in_ok-edit-2.ensures.made) (fits_standing (stands_in c.trees.result.now c.args.file) (stands_by c.trees.result.now c.args.file) left there.text fit) in
     (rw c.in-Err-Range.field-0-is at c.in-Err-Range.ensures).answer (subst (λ (text : List ℕ). All (FitsText text) c.in_ok-edit-2.field-0.edit) (sym c.text.ensures) made)
 
 pub returns-clause-change : goal.returns-clause-change
@@ -82,4 +83,4 @@ returns-clause-fits c =
     c.in_ok-edit.ensures.fits there.text (record { tree = c.requires.fits.0; aside = there.aside; reaches = there.reaches; unsearched = there.unsearched }) (sym c.reaches.ensures)
     (c.file-there.ensures.searched c.requires.fits.0 c.requires.fits.1) c.requires.fits.2 in
     fits_in c.args.files.now.files c.args.file there all refl c.file-there.ensures.there
-    (subst (All (FitsText there.text)) (sym c.in_ok-edit-2.ensures.made) (fits_standing (stands_in c.trees.result.now c.args.file) left there.text fit))
+    (subst (All (FitsText there.text)) (sym c.in_ok-edit-2.ensures.made) (fits_standing (stands_in c.trees.result.now c.args.file) (stands_by c.trees.result.now c.args.file) left there.text fit))

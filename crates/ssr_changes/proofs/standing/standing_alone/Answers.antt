@@ -9,15 +9,15 @@ use Rattle.ssr_base_trees.specs.Changes.{Change, ChangesInOrder}
 use Rattle.ssr_base_trees.specs.Applied.{change_of, changes_of}
 use Rattle.ssr_base_trees.proofs.Changes.{change_at, fits_here, shown}
 use Rattle.ssr_set_aside.specs.Sparing.{bounds, bounds_of}
-use Rattle.ssr_standing.specs.Expansions.{stands_in}
 use Rattle.ssr_standing.specs.Fitted.{IsFitted, change_with, fitted}
+use Rattle.ssr_standing.specs.Near.{stands_by}
 use Rattle.ssr_changes.specs.Standing.{alone, not_alone}
 use Rattle.ssr_changes.proofs.Standings.{fitted_made, fitted_stays, order-filter, order-fitted, text_behind, unfit_falls, unfit_left}
 use Rattle.ssr_changes.proofs.standing.standing_alone.Goals as goal
 use Rattle.ssr_changes.proofs.standing.standing_alone.Goals.{in-Some+in_ok-push-in-Some, in-None+in_ok-push-in-None}
 
-pub fitted-requires-clause-fits : goal.fitted-requires-clause-fits
-fitted-requires-clause-fits c =
+pub fitted-requires : goal.fitted-requires
+fitted-requires c =
     let pairs = c.as_slice-range-items.result.now in
     let item = c.loop-range-item.result in
     let source = source_of c.args.file.now.tree.now in
@@ -33,7 +33,7 @@ loop-range-preserved c =
     let d : Change = change_of item in
     let its : get_or cs i d ≡ d = change_at pairs i item d c.loop-range-test.true c.loop-range-item.is in
     let less : i < length cs = omega (arith, length-map pairs change_of) in
-    let by : List Change → Bool = stands_in c.args.file.now.trees.now c.args.file.now.number in
+    let by : Change → Bool = stands_by c.args.file.now.trees.now c.args.file.now.number c.args.judge in
     let is : IsFitted by d (option_map string_bytes c.in_ok-text.field-0) =
     subst (λ (text : List ℕ). IsFitted by (change_with item.0 text) (option_map string_bytes c.in_ok-text.field-0)) c.as_str.ensures.value c.in_ok-text.ensures in
     elim c.match-branch-2.branch [
@@ -68,9 +68,9 @@ pub new-requires : goal.new-requires
 new-requires c =
     let pairs = c.as_slice-range-items.result.now in
     let cs : List Change = changes_of pairs in
-    let by : List Change → Bool = stands_in c.args.file.now.trees.now c.args.file.now.number in
+    let by : Change → Bool = stands_by c.args.file.now.trees.now c.args.file.now.number c.args.judge in
     let order : ChangesInOrder 0 cs =
     subst (ChangesInOrder 0) (sym (shown c.as_slice-range-items.ensures.value c.iter.ensures.items)) c.iter.ensures.order in
     let all : take c.loop-range.range-index cs ≡ cs = take_all c.loop-range.range-index cs (omega (arith, length-map pairs change_of)) in
     subst (ChangesInOrder 0) (sym (c.loop-range.invariant.made ∙ ap (alone by) all))
-    (order-filter (λ e. by (e ∷ [])) 0 (map (fitted by) cs) (order-fitted by 0 cs order))
+    (order-filter by 0 (map (fitted by) cs) (order-fitted by 0 cs order))

@@ -1,6 +1,5 @@
-use Rattle.std.proofs.Common.{◌≡◌, ◌∙◌, length, ap, map}
+use Rattle.std.proofs.Common.{◌∙◌, length, ap}
 use Rattle.ssr_syntax_kinds.specs.declared.reach.Reach.{Reach}
-use Rattle.ssr_base_trees.specs.Origins.{span_of}
 use Rattle.ssr_standing.specs.Expansions.{first_stand, stands_in}
 use Rattle.ssr_standing.specs.Standing.{stands_of}
 use Rattle.ssr_standing.proofs.Calls.{calls_decide, text_falls}
@@ -13,18 +12,12 @@ returns-then-not-text_stands c =
     c.args.self.now.there
     (c.in_ok-text_stands.ensures ∙ ap (λ (r : Reach). stands_of r c.args.self.now.tree.now c.args.edit.now) c.reach.ensures) (cc)
 
-pub invariant_of-edited : goal.invariant_of-edited
-invariant_of-edited c = record {
-  placed = ap (map span_of) c.deref.ensures.value ∙ c.in_ok-ranges.ensures.ranges;
-  unchanged = c.in_ok-old.ensures;
-}
-
 pub returns : goal.returns
 returns c =
     let w = c.args.self.now.trees.now in
     let n = c.args.self.now.number in
     let file = c.args.self.now.tree.now in
     let cs = c.args.edit.now in
-    if_ok_same c.all_stand.result (first_stand w n file cs (length w.expansions)) (stands_in w n cs) c.all_stand.ensures
+    if_ok_same c.calls_stand.result (first_stand w n file cs (length w.expansions)) (stands_in w n cs) c.calls_stand.ensures
     (calls_decide w n file cs c.in_ok-text_stands.text_stands c.args.self.now.there
     (c.in_ok-text_stands.ensures ∙ ap (λ (r : Reach). stands_of r c.args.self.now.tree.now c.args.edit.now) c.reach.ensures) (cc))

@@ -1,8 +1,0 @@
-use Rattle.std.proofs.Common.{◌≡◌, map, take}
-use Rattle.ssr_base_trees.specs.Applied.{changes_of}
-use Rattle.ide_ssr_rewriting.specs.Fitting.{fitted_alone}
-use Rattle.ide_ssr_rewriting.specs.Private.Fitting.{stands_in}
-use Rattle.ide_ssr_rewriting.proofs.fitting.Part.each_fitted.Given as goal
-
-abbrev pub invariant-loop-range : goal.invariant-loop-range
-invariant-loop-range l = changes_of l.fitted.items ≡ map (fitted_alone (stands_in l.self.workspace.now l.self.front.now l.self.range)) (take l.range-index (changes_of l.changes))
