@@ -1,5 +1,5 @@
 -- Changes of a part of a text.
-use Rattle.std.proofs.Common.{◌≡◌, ℕ, ◌+◌, ◌-◌, ◌<◌, ◌≤◌, ◌^◌, false, List, All, Option, Some, get_or, length, drop, sym, ◌∙◌, ap, arith}
+use Rattle.std.proofs.Common.{◌≡◌, ℕ, ◌+◌, ◌-◌, ◌<◌, ◌^◌, false, List, All, Option, Some, get_or, length, drop, sym, ◌∙◌, ap, arith}
 use Rattle.std.specs.Prelude.{IsCharBoundary, slice_range}
 use Rattle.std.specs.Option.{option_map_or}
 use Rattle.std.proofs.lemmas.List.{length-drop, length-take-le}

@@ -1,5 +1,5 @@
 -- Private: what is asked of matches and of their lists so that they can be written.
-use Rattle.std.specs.Prelude.{ℕ, ◌≡◌, true, List, All}
+use Rattle.std.specs.Prelude.{◌≡◌, true, List, All}
 use Rattle.ssr_base_trees.specs.Laws.{LiesIn}
 use Rattle.ssr_base_trees.specs.Texts.{is_boundary}
 use Rattle.ssr_base_trees.specs.Workspace.{FileSpan, Workspace}

@@ -4,14 +4,14 @@ use Rattle.ssr_base_trees.specs.Changes.{FitsText}
 use Rattle.ssr_standing.specs.Expansions.{stands_in}
 use Rattle.ssr_standing.specs.Near.{stands_by}
 use Rattle.ssr_standing.specs.declared.fitted.Judge.TheVariants as judges
-use Rattle.ide_ssr_rewriting.proofs.Fittings.{all_fit_text, all_stay, as_blocks_tell, each_alone}
+use Rattle.ide_ssr_rewriting.proofs.Fittings.{all_fit_alone, all_stay, as_blocks_tell, each_alone}
 use Rattle.ide_ssr_rewriting.proofs.files.all_fitted.Goals as goal
 
 pub stands-requires-2 : goal.stands-requires-2
 stands-requires-2 c =
     let source = source_of c.args.file.now.tree.now in
     subst (All (FitsText source)) (sym c.in_ok-near.ensures)
-    (all_fit_text (stands_by c.args.file.now.trees.now c.args.file.now.number judges.Block) source c.args.edit c.requires)
+    (all_fit_alone (stands_by c.args.file.now.trees.now c.args.file.now.number judges.Block) source c.args.edit c.requires)
 
 pub returns-then-branch : goal.returns-then-branch
 returns-then-branch c =

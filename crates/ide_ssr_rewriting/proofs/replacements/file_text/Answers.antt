@@ -1,4 +1,4 @@
-use Rattle.std.proofs.Common.{◌≡◌, ◌∙◌, ◌<◌, List, [], ℕ, length, Option, ap, sym, arith}
+use Rattle.std.proofs.Common.{◌∙◌, ◌<◌, [], length, Option, ap, sym, arith}
 use Rattle.std.specs.Option.{option_map_or}
 use Rattle.ssr_syntax_tree.specs.Syntax.{Syntax, source_of}
 use Rattle.ssr_base_trees.proofs.Shared.{file_there, none_there}

@@ -1,4 +1,4 @@
-use Rattle.std.proofs.Common.{◌≡◌, ◌∙◌, List, ℕ, ap, arith, subst, sym}
+use Rattle.std.proofs.Common.{◌∙◌, List, ℕ, ap, arith, subst, sym}
 use Rattle.std.specs.Prelude.{All, Option, option_map, slice_range}
 use Rattle.std.proofs.lemmas.Bool.{eqb-true}
 use Rattle.ssr_syntax_kinds.specs.declared.reach.Reach.{Reach}
