@@ -36,8 +36,7 @@ fitted_near stand stands_by cs =
     let near = map (fitted_alone (stands_by judges.Block)) cs in
     if stand cs then cs else if stand near then near else map (fitted_alone (stands_by judges.File)) cs
 
--- The changes that are made in a file: as they are, if with all of them the file is read and groups as before, and so does what each
--- call of a macro in it stands for; else as the blocks around them tell, if these changes pass the same test; else each as it stands
--- alone.
+-- The changes that are made in a file. They stand together if it is read with them and groups as before, and so does what each call of a
+-- macro in it stands for. What the blocks around changes tell has to pass this test, too.
 unfoldable pub fitted_in : Workspace → ℕ → List Change → List Change
 fitted_in w file cs = fitted_near (stands_in w file) (stands_by w file) cs

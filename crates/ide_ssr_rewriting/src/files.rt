@@ -49,7 +49,7 @@ fn each_fitted(
     Ok(TextEdit::new(changes))
 }
 
-/// The changes of a file as they are, if it groups as before with all of them; else as their blocks tell, if it does so with these; else
+/// The changes of a file as they are, if it groups as before with all of them. Else as their blocks tell, if it does so with these; else
 /// each as it stands alone in the whole file.
 fn all_fitted(
     alloc: Global,

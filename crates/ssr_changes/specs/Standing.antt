@@ -13,8 +13,8 @@ alone stands cs = filter stands (map (fitted stands) cs)
 abbrev pub not_alone : (Change → Bool) → List Change → List Change
 not_alone stands cs = filter (λ c. not (stands (fitted stands c))) cs
 
--- The changes that are made: all as they are, if they stand together; else those that stand by their nearest blocks, if these stand
--- together; else those that stand alone in the whole file, if these stand together; else none.
+-- The changes that are made: all as they are, if they stand together. Else those that stand by their nearest blocks, if these stand
+-- together; else those that stand alone in the whole file, if these do; else none.
 abbrev pub standing : (List Change → Bool) → (Judge → Change → Bool) → List Change → List Change
 standing stand stands_by cs =
     let near = alone (stands_by judges.Block) cs in
