@@ -1,5 +1,5 @@
 -- Changes in a part of a text, in parentheses or not.
-use Rattle.std.proofs.Common.{◌≡◌, ℕ, ◌+◌, ◌-◌, ◌<◌, ◌≤◌, ◌==◌, ◌&&◌, Bool, true, false, List, [], ◌∷◌, ◌++◌, All, get_or, length, map, take, Option, Some, None, option_map, refl, sym, ◌∙◌, ap, subst, arith, String}
+use Rattle.std.proofs.Common.{◌≡◌, ℕ, ◌+◌, ◌-◌, ◌<◌, ◌≤◌, ◌==◌, ◌&&◌, Bool, true, false, List, [], ◌∷◌, ◌++◌, All, get_or, length, map, take, append-nil, cond, filter, Option, Some, None, option_map, refl, sym, ◌∙◌, ap, subst, arith, String}
 use Rattle.std.specs.Prelude.{if◌then◌else◌, slice_get, slice_range}
 use Rattle.std.specs.Global.{Global}
 use Rattle.std.specs.Option.{option_map_or}
@@ -7,7 +7,7 @@ use Rattle.ssr_syntax_kinds.specs.declared.reach.Reach.{Reach}
 use Rattle.ssr_syntax_tree.specs.Syntax.{Syntax}
 use Rattle.std.proofs.lemmas.Option.{same_Some}
 use Rattle.std.proofs.lemmas.List.{length-map, map-append, take_more}
-use Rattle.std.proofs.lemmas.List.Elements.{All-map}
+use Rattle.std.proofs.lemmas.List.Elements.{All-filter, All-map, filter-append}
 use Rattle.ssr_syntax_kinds.specs.declared.range.TextRange.{TextRange}
 use Rattle.ssr_base_trees.specs.declared.ids.FileRange.{FileRange}
 use Rattle.ssr_base_trees.specs.Applied.{change_of, changes_of}
@@ -15,7 +15,7 @@ use Rattle.ssr_base_trees.specs.Changes.{Change, ChangesInOrder, FitsText, repla
 use Rattle.ssr_base_trees.proofs.Changes.{change_at}
 use Rattle.ssr_base_trees.specs.Workspace.{Workspace, file_span_of}
 use Rattle.ssr_standing.specs.Expansions.{stands_in}
-use Rattle.ssr_standing.specs.Fitted.{fitted, in_parentheses}
+use Rattle.ssr_standing.specs.Fitted.{IsFitted, fitted, in_parentheses}
 use Rattle.ssr_standing.specs.Near.{stands_by}
 use Rattle.ssr_standing.specs.Parts.{FitsPart, agrees_after, expression_of, stands_between}
 use Rattle.ssr_standing.specs.declared.fitted.Judge.{Judge}
@@ -38,6 +38,10 @@ module _ (stands : Change → Bool) where
 
   pub all_fit_alone : (text : List ℕ) (cs : List Change) → All (FitsText text) cs → All (FitsText text) (map (fitted_alone stands) cs)
   all_fit_alone text cs all = All-map (FitsText text) (fitted_alone stands) cs (λ k d less. fits_alone text (get_or cs k d) (all k d less))
+
+  -- and so those that stand
+  pub some_fit_alone : (text : List ℕ) (cs : List Change) → All (FitsText text) cs → All (FitsText text) (filter stands (map (fitted_alone stands) cs))
+  some_fit_alone text cs all = All-filter stands (FitsText text) (map (fitted_alone stands) cs) (all_fit_alone text cs all)
 
 pub fits_between : (reach : Reach) (front text : List ℕ) (from to : ℕ) (cs : List Change) → All (FitsText text) cs → All (FitsText text) (fitted_between reach front text from to cs)
 unfolding fitted_between
@@ -78,11 +82,26 @@ module _ (stands : Change → Bool) where
   all_fit_in_alone : (w : Workspace) (file : ℕ) (cs : List Change) → All (FitsIn w file) cs → All (FitsIn w file) (map (fitted_alone stands) cs)
   all_fit_in_alone w file cs all = All-map (FitsIn w file) (fitted_alone stands) cs (λ k d less. fits_in_alone w file (get_or cs k d) (all k d less))
 
+earlier : (at from : ℕ) (cs : List Change) → at ≤ from → ChangesInOrder from cs → ChangesInOrder at cs
+earlier at from [] less order = tt
+earlier at from (c ∷ cs) less order = (omega (arith, order.0), order.1, order.2)
+
+-- changes that are left out leave the others in order
+pub order_some : (p : Change → Bool) (at : ℕ) (cs : List Change) → ChangesInOrder at cs → ChangesInOrder at (filter p cs)
+order_some p at [] order = tt
+order_some p at (c ∷ cs) order = by (p c) (order_some p c.end cs order.2)
+  where
+    by : (b : Bool) → ChangesInOrder c.end (filter p cs) → ChangesInOrder at (if b then c ∷ filter p cs else filter p cs)
+    by true rest = (order.0, order.1, rest)
+    by false rest = earlier at c.end (filter p cs) (omega (arith, order.0, order.1)) rest
+
 -- which of the three is made
 module _ (P : List Change → Type 0) (w : Workspace) (file : ℕ) (cs : List Change) where
   one_of : P cs → P (map (fitted_alone (stands_by w file judges.Block)) cs) → P (map (fitted_alone (stands_by w file judges.File)) cs) → P (fitted_in w file cs)
   unfolding fitted_in
-  one_of all near alone = by (stands_in w file cs) (stands_in w file (map (fitted_alone (stands_by w file judges.Block)) cs))
+  one_of all near alone =
+      by (stands_in w file cs)
+      (stands_in w file (filter (stands_by w file judges.Block) (map (fitted_alone (stands_by w file judges.Block)) cs)))
     where
       by : (b d : Bool)
           → P (if b then cs else if d then map (fitted_alone (stands_by w file judges.Block)) cs else map (fitted_alone (stands_by w file judges.File)) cs)
@@ -106,19 +125,22 @@ module _ (stand : List Change → Bool) (by : Judge → Change → Bool) (cs : L
   abbrev near : List Change
   near = map (fitted_alone (by judges.Block)) cs
 
+  abbrev near_standing : List Change
+  near_standing = filter (by judges.Block) near
+
   abbrev alone : List Change
   alone = map (fitted_alone (by judges.File)) cs
 
   pub all_stay : stand cs ≡ true → cs ≡ fitted_near stand by cs
-  all_stay is = sym (ap (λ b. if b then cs else if stand near then near else alone) is)
+  all_stay is = sym (ap (λ b. if b then cs else if stand near_standing then near else alone) is)
 
-  pub as_blocks_tell : stand cs ≡ false → stand near ≡ true → near ≡ fitted_near stand by cs
+  pub as_blocks_tell : stand cs ≡ false → stand near_standing ≡ true → near ≡ fitted_near stand by cs
   as_blocks_tell all is =
-      sym (ap (λ b. if b then cs else if stand near then near else alone) all ∙ ap (λ b. if b then near else alone) is)
+      sym (ap (λ b. if b then cs else if stand near_standing then near else alone) all ∙ ap (λ b. if b then near else alone) is)
 
-  pub each_alone : stand cs ≡ false → stand near ≡ false → alone ≡ fitted_near stand by cs
+  pub each_alone : stand cs ≡ false → stand near_standing ≡ false → alone ≡ fitted_near stand by cs
   each_alone all is =
-      sym (ap (λ b. if b then cs else if stand near then near else alone) all ∙ ap (λ b. if b then near else alone) is)
+      sym (ap (λ b. if b then cs else if stand near_standing then near else alone) all ∙ ap (λ b. if b then near else alone) is)
 
 -- ** Changes of a range.
 
@@ -127,6 +149,15 @@ pub fits_here : (text : List ℕ) (part : TextRange) (pairs : List (TextRange ×
     → i < length pairs → pair ≡ get_or pairs i pair → All (FitsPart text part) (changes_of pairs) → FitsPart text part (change_of pair)
 fits_here text part pairs i pair h e all =
     subst (FitsPart text part) (change_at pairs i pair (change_of pair) h e) (all i (change_of pair) (omega (arith, length-map pairs change_of)))
+
+-- all up to one change more
+one_more : (fit : Change → Change) (pairs : List (TextRange × String Global)) (i : ℕ) (pair : TextRange × String Global)
+    → i < length pairs → pair ≡ get_or pairs i pair
+    → map fit (take (i + 1) (changes_of pairs)) ≡ map fit (take i (changes_of pairs)) ++ fit (change_of pair) ∷ []
+one_more fit pairs i pair h e =
+    ap (map fit) (take_more (changes_of pairs) i (change_of pair) (omega (arith, length-map pairs change_of)))
+    ∙ ap (λ (c : Change). map fit (take i (changes_of pairs) ++ c ∷ [])) (change_at pairs i pair (change_of pair) h e)
+    ∙ map-append fit (take i (changes_of pairs)) (change_of pair ∷ [])
 
 -- one change more that is fitted
 pub one_fitted : (fit : Change → Change) (pairs : List (TextRange × String Global)) (i : ℕ) (pair : TextRange × String Global) (text : String Global)
@@ -137,9 +168,30 @@ one_fitted fit pairs i pair text old new h e more is so =
     ap changes_of more ∙ map-append change_of old ((pair.0, text) ∷ [])
     ∙ ap (λ (cs : List Change). cs ++ change_of (pair.0, text) ∷ []) so
     ∙ ap (λ (c : Change). map fit (take i (changes_of pairs)) ++ c ∷ []) is
-    ∙ sym (map-append fit (take i (changes_of pairs)) (change_of pair ∷ []))
-    ∙ ap (λ (c : Change). map fit (take i (changes_of pairs) ++ c ∷ [])) (sym (change_at pairs i pair (change_of pair) h e))
-    ∙ ap (map fit) (sym (take_more (changes_of pairs) i (change_of pair) (omega (arith, length-map pairs change_of))))
+    ∙ sym (one_more fit pairs i pair h e)
+
+-- and that passes a test, or doesn't
+module _ (p : Change → Bool) (fit : Change → Change) (pairs : List (TextRange × String Global)) (i : ℕ) (pair : TextRange × String Global)
+  (h : i < length pairs) (e : pair ≡ get_or pairs i pair) where
+  tested : (b : Bool) → p (fit (change_of pair)) ≡ b
+      → filter p (map fit (take (i + 1) (changes_of pairs))) ≡ filter p (map fit (take i (changes_of pairs))) ++ cond b (fit (change_of pair) ∷ []) []
+  tested b is =
+      ap (filter p) (one_more fit pairs i pair h e)
+      ∙ filter-append p (map fit (take i (changes_of pairs))) (fit (change_of pair) ∷ [])
+      ∙ ap (λ (b : Bool). filter p (map fit (take i (changes_of pairs))) ++ cond b (fit (change_of pair) ∷ []) []) is
+
+  pub one_passes : (text : String Global) (old new : List (TextRange × String Global)) → new ≡ old ++ (pair.0, text) ∷ []
+      → change_of (pair.0, text) ≡ fit (change_of pair) → p (fit (change_of pair)) ≡ true
+      → changes_of old ≡ filter p (map fit (take i (changes_of pairs))) → changes_of new ≡ filter p (map fit (take (i + 1) (changes_of pairs)))
+  one_passes text old new more is passes so =
+      ap changes_of more ∙ map-append change_of old ((pair.0, text) ∷ [])
+      ∙ ap (λ (cs : List Change). cs ++ change_of (pair.0, text) ∷ []) so
+      ∙ ap (λ (c : Change). filter p (map fit (take i (changes_of pairs))) ++ c ∷ []) is
+      ∙ sym (tested true passes)
+
+  pub one_falls : (old : List (TextRange × String Global)) → p (fit (change_of pair)) ≡ false
+      → changes_of old ≡ filter p (map fit (take i (changes_of pairs))) → changes_of old ≡ filter p (map fit (take (i + 1) (changes_of pairs)))
+  one_falls old falls so = so ∙ sym (tested false falls ∙ append-nil (filter p (map fit (take i (changes_of pairs)))))
 
 -- ** What is made.
 
@@ -204,6 +256,27 @@ module _ (stands : Change → Bool) (c : Change) (fall : stands c ≡ false) whe
 
   pub stays_open : stands (in_parentheses c) ≡ false → fitted_alone stands c ≡ c
   stays_open is = ap (λ (d : Change). if stands d then d else c) in_them ∙ ap (λ b. if b then in_parentheses c else c) is
+
+-- a change that is made as it stands, and one that stands nowhere
+module _ (stands : Change → Bool) (c : Change) where
+  pub fit_stands : (text : List ℕ) → IsFitted stands c (Some text) → fitted_alone stands c ≡ record { start = c.start; end = c.end; text = text }
+  fit_stands text is = ap (λ b. if b then fitted stands c else c) is.1 ∙ is.0
+
+  pub fit_passes : (text : List ℕ) → IsFitted stands c (Some text) → stands (fitted_alone stands c) ≡ true
+  fit_passes text is = ap (λ b. stands (if b then fitted stands c else c)) is.1 ∙ is.1
+
+  pub unfit_stays : IsFitted stands c None → fitted_alone stands c ≡ c
+  unfit_stays is = ap (λ b. if b then fitted stands c else c) is
+
+  -- it would have been taken as it is
+  itself_falls : (b : Bool) → stands c ≡ b → stands (if b then c else in_parentheses c) ≡ false → stands c ≡ false
+  itself_falls true its is = is
+  itself_falls false its is = its
+
+  pub unfit_falls : IsFitted stands c None → stands (fitted_alone stands c) ≡ false
+  unfit_falls is =
+      ap stands (unfit_stays is)
+      ∙ itself_falls (stands c) refl is
 
 -- ** Whether nothing stands around changes.
 

@@ -1,5 +1,5 @@
 -- Which changes in a part of a text, and in a file, are put in parentheses, so that it groups as before.
-use Rattle.std.specs.Prelude.{ℕ, ◌==◌, ◌&&◌, Bool, true, false, if◌then◌else◌, List, [], ◌∷◌, length, map}
+use Rattle.std.specs.Prelude.{ℕ, ◌==◌, ◌&&◌, Bool, true, false, if◌then◌else◌, List, [], ◌∷◌, filter, length, map}
 use Rattle.ssr_syntax_kinds.specs.declared.reach.Reach.{Reach}
 use Rattle.ssr_base_trees.specs.Changes.{Change}
 use Rattle.ssr_base_trees.specs.Workspace.{Workspace}
@@ -29,14 +29,15 @@ unfoldable pub fitted_between : Reach → List ℕ → List ℕ → ℕ → ℕ 
 fitted_between reach front text from to cs =
     if is_alone front from to cs then cs else all_fitted (stands_between reach front text from to) cs
 
--- the changes as they are, if they stand together; else each as it stands by its nearest block, if these stand together; else each as it
--- stands alone in the whole file
+-- The changes as they are, if they stand together. Else each as it stands by its nearest block, if those that do so stand together
+-- without the others; else each as it stands alone in the whole file.
 abbrev pub fitted_near : (List Change → Bool) → (Judge → Change → Bool) → List Change → List Change
 fitted_near stand stands_by cs =
     let near = map (fitted_alone (stands_by judges.Block)) cs in
-    if stand cs then cs else if stand near then near else map (fitted_alone (stands_by judges.File)) cs
+    if stand cs then cs else if stand (filter (stands_by judges.Block) near) then near else map (fitted_alone (stands_by judges.File)) cs
 
 -- The changes that are made in a file. They stand together if it is read with them and groups as before, and so does what each call of a
--- macro in it stands for. What the blocks around changes tell has to pass this test, too.
+-- macro in it stands for. What stands by the blocks around it has to pass this test, too; what stands nowhere is left out of it, and so
+-- doesn't make the others be judged by the file.
 unfoldable pub fitted_in : Workspace → ℕ → List Change → List Change
 fitted_in w file cs = fitted_near (stands_in w file) (stands_by w file) cs

@@ -1,10 +1,9 @@
 //! Which replacements in a file are put in parentheses, so that it groups as before.
 
-ghost use Rattle.std.specs.Prelude.{◌≡◌, All, IfOk, map, string_bytes};
+ghost use Rattle.std.specs.Prelude.{◌≡◌, All, IfOk, filter, map};
 ghost use Rattle.ssr_syntax_tree.specs.Syntax.{source_of};
 ghost use Rattle.ssr_base_trees.specs.Changes.{FitsText};
 ghost use Rattle.ssr_standing.specs.Expansions.{stands_in};
-ghost use Rattle.ssr_standing.specs.Fitted.{change_with};
 ghost use Rattle.ssr_standing.specs.Near.{stands_by};
 ghost use Rattle.ide_ssr_rewriting.specs.Fitting.{fitted_alone, fitted_in, fitted_near};
 ghost use Rattle.ide_ssr_rewriting.specs.Private.Files.{FitsTree};
@@ -14,43 +13,45 @@ use ssr_standing::{Judge, SearchedFile};
 use ssr_syntax_kinds::TextRange;
 use std::alloc::{AllocError, Global};
 
-/// The text of a change as it stands by what it is judged by: as it is, or else in parentheses. What stands neither way stays as it is.
-fn fitted(
-    alloc: Global,
-    file: &SearchedFile<'_>,
-    judge: Judge,
-    range: TextRange,
-    text: &str,
-) -> Result<String, AllocError>
-    requires { FitsText (source_of file.now.tree.now) (change_with range text.now) }
-    ensures { IfOk result (λ new. change_with range (string_bytes new) ≡ fitted_alone (stands_by file.now.trees.now file.now.number judge) (change_with range text.now)) }
-{
-    match file.fitted(alloc, judge, range, text)? {
-        Some(new) => Ok(new),
-        None => String::from_str(alloc, text),
-    }
+/// The changes of a file, each by itself.
+#[derive(Drop)]
+struct Fitted {
+    /// Each as it stands: as it is, or else in parentheses. What stands neither way stays as it is.
+    all: TextEdit,
+    /// Those that stand.
+    standing: TextEdit,
 }
 
-/// Each change of a file as it stands by what it is judged by.
+/// Each change of a file as it stands by what it is judged by, and those that do.
 fn each_fitted(
     alloc: Global,
     file: &SearchedFile<'_>,
     judge: Judge,
     edit: &TextEdit,
-) -> Result<TextEdit, AllocError>
+) -> Result<Fitted, AllocError>
     requires { All (FitsText (source_of file.now.tree.now)) edit.now }
-    ensures { IfOk result (λ new. new ≡ map (fitted_alone (stands_by file.now.trees.now file.now.number judge)) edit.now) }
+    ensures all { IfOk result (λ fitted. fitted.all ≡ map (fitted_alone (stands_by file.now.trees.now file.now.number judge)) edit.now) }
+    ensures standing { IfOk result (λ fitted. fitted.standing ≡ filter (stands_by file.now.trees.now file.now.number judge) (map (fitted_alone (stands_by file.now.trees.now file.now.number judge)) edit.now)) }
 {
-    let mut changes = Vec::new(alloc);
+    let mut all = Vec::new(alloc);
+    let mut standing = Vec::new(alloc);
     for (range, text) in edit.iter().as_slice() {
-        let fit = fitted(alloc, file, judge, *range, text.as_str())?;
-        changes.push((*range, fit))?;
+        match file.fitted(alloc, judge, *range, text.as_str())? {
+            Some(new) => {
+                standing.push((*range, String::from_str(alloc, new.as_str())?))?;
+                all.push((*range, new))?;
+            }
+            None => all.push((*range, String::from_str(alloc, text.as_str())?))?,
+        }
     }
-    Ok(TextEdit::new(changes))
+    Ok(Fitted {
+        all: TextEdit::new(all),
+        standing: TextEdit::new(standing),
+    })
 }
 
-/// The changes of a file as they are, if it groups as before with all of them. Else as their blocks tell, if it does so with these; else
-/// each as it stands alone in the whole file.
+/// The changes of a file as they are, if it groups as before with all of them. Else as their blocks tell, if it does so with those that
+/// stand by their blocks; else each as it stands alone in the whole file.
 fn all_fitted(
     alloc: Global,
     file: &SearchedFile<'_>,
@@ -63,11 +64,12 @@ fn all_fitted(
         return Ok(edit);
     }
     let near = each_fitted(alloc, file, Judge::Block, &edit)?;
-    if file.stands(alloc, &near)? {
-        return Ok(near);
+    // What stands nowhere would make this test fail, however many others there are.
+    if file.stands(alloc, &near.standing)? {
+        return Ok(near.all);
     }
     let alone = each_fitted(alloc, file, Judge::File, &edit)?;
-    Ok(alone)
+    Ok(alone.all)
 }
 
 /// The changes that are made in a file, some of them in parentheses so that it groups as before.

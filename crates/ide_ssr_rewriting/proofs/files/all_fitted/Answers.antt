@@ -4,14 +4,14 @@ use Rattle.ssr_base_trees.specs.Changes.{FitsText}
 use Rattle.ssr_standing.specs.Expansions.{stands_in}
 use Rattle.ssr_standing.specs.Near.{stands_by}
 use Rattle.ssr_standing.specs.declared.fitted.Judge.TheVariants as judges
-use Rattle.ide_ssr_rewriting.proofs.Fittings.{all_fit_alone, all_stay, as_blocks_tell, each_alone}
+use Rattle.ide_ssr_rewriting.proofs.Fittings.{all_stay, as_blocks_tell, each_alone, some_fit_alone}
 use Rattle.ide_ssr_rewriting.proofs.files.all_fitted.Goals as goal
 
 pub stands-requires-2 : goal.stands-requires-2
 stands-requires-2 c =
     let source = source_of c.args.file.now.tree.now in
-    subst (All (FitsText source)) (sym c.in_ok-near.ensures)
-    (all_fit_alone (stands_by c.args.file.now.trees.now c.args.file.now.number judges.Block) source c.args.edit c.requires)
+    subst (All (FitsText source)) (sym c.in_ok-near.ensures.standing)
+    (some_fit_alone (stands_by c.args.file.now.trees.now c.args.file.now.number judges.Block) source c.args.edit c.requires)
 
 pub returns-then-branch : goal.returns-then-branch
 returns-then-branch c =
@@ -23,14 +23,14 @@ pub returns-then-branch-2 : goal.returns-then-branch-2
 returns-then-branch-2 c =
     let w = c.args.file.now.trees.now in
     let n = c.args.file.now.number in
-    c.in_ok-near.ensures
+    c.in_ok-near.ensures.all
     ∙ as_blocks_tell (stands_in w n) (stands_by w n) c.args.edit (sym c.in_ok-stands.ensures ∙ c.if-branch.false)
-    (ap (stands_in w n) (sym c.in_ok-near.ensures) ∙ sym c.in_ok-stands-2.ensures ∙ c.if-branch-2.true)
+    (ap (stands_in w n) (sym c.in_ok-near.ensures.standing) ∙ sym c.in_ok-stands-2.ensures ∙ c.if-branch-2.true)
 
 pub returns : goal.returns
 returns c =
     let w = c.args.file.now.trees.now in
     let n = c.args.file.now.number in
-    c.in_ok-alone.ensures
+    c.in_ok-alone.ensures.all
     ∙ each_alone (stands_in w n) (stands_by w n) c.args.edit (sym c.in_ok-stands.ensures ∙ c.if-branch.false)
-    (ap (stands_in w n) (sym c.in_ok-near.ensures) ∙ sym c.in_ok-stands-2.ensures ∙ c.if-branch-2.false)
+    (ap (stands_in w n) (sym c.in_ok-near.ensures.standing) ∙ sym c.in_ok-stands-2.ensures ∙ c.if-branch-2.false)
