@@ -1,5 +1,5 @@
 -- Changes in a part of a text, in parentheses or not.
-use Rattle.std.proofs.Common.{◌≡◌, ℕ, ◌+◌, ◌-◌, ◌<◌, ◌≤◌, ◌==◌, ◌&&◌, Bool, true, false, List, [], ◌∷◌, ◌++◌, All, get_or, length, map, take, append-nil, cond, filter, Option, Some, None, option_map, refl, sym, ◌∙◌, ap, subst, arith, String}
+use Rattle.std.proofs.Common.{◌≡◌, ℕ, ◌+◌, ◌<◌, ◌≤◌, ◌==◌, ◌&&◌, Bool, true, false, List, [], ◌∷◌, ◌++◌, All, get_or, length, map, take, append-nil, cond, filter, Option, Some, None, option_map, refl, sym, ◌∙◌, ap, subst, arith, String}
 use Rattle.std.specs.Prelude.{if◌then◌else◌, slice_get, slice_range}
 use Rattle.std.specs.Global.{Global}
 use Rattle.std.specs.Option.{option_map_or}
@@ -172,7 +172,7 @@ one_fitted fit pairs i pair text old new h e more is so =
 
 -- and that passes a test, or doesn't
 module _ (p : Change → Bool) (fit : Change → Change) (pairs : List (TextRange × String Global)) (i : ℕ) (pair : TextRange × String Global)
-  (h : i < length pairs) (e : pair ≡ get_or pairs i pair) where
+    (h : i < length pairs) (e : pair ≡ get_or pairs i pair) where
   tested : (b : Bool) → p (fit (change_of pair)) ≡ b
       → filter p (map fit (take (i + 1) (changes_of pairs))) ≡ filter p (map fit (take i (changes_of pairs))) ++ cond b (fit (change_of pair) ∷ []) []
   tested b is =

@@ -37,7 +37,7 @@ fitted_near stand stands_by cs =
     if stand cs then cs else if stand (filter (stands_by judges.Block) near) then near else map (fitted_alone (stands_by judges.File)) cs
 
 -- The changes that are made in a file. They stand together if it is read with them and groups as before, and so does what each call of a
--- macro in it stands for. What stands by the blocks around it has to pass this test, too; what stands nowhere is left out of it, and so
--- doesn't make the others be judged by the file.
+-- macro in it stands for. Those that stand by their blocks have to pass this test, too. It leaves out the others: with one of them it
+-- would fail, and each change would be judged by the whole file.
 unfoldable pub fitted_in : Workspace → ℕ → List Change → List Change
 fitted_in w file cs = fitted_near (stands_in w file) (stands_by w file) cs

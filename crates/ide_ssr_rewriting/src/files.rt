@@ -64,7 +64,7 @@ fn all_fitted(
         return Ok(edit);
     }
     let near = each_fitted(alloc, file, Judge::Block, &edit)?;
-    // What stands nowhere would make this test fail, however many others there are.
+    // One change that doesn't stand would make this fail, and the file be read for each of the others.
     if file.stands(alloc, &near.standing)? {
         return Ok(near.all);
     }

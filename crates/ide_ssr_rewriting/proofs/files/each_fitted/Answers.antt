@@ -36,7 +36,7 @@ loop-range-preserved c =
           let fits : IsFitted by d (Some (string_bytes new)) = subst (λ o. IsFitted by d (option_map string_bytes o)) w.in-Some.is is in
           let made : change_of (item.0, new) ≡ fit d = sym (fit_stands by d (string_bytes new) fits) in
           let copied : change_of (item.0, copy) ≡ fit d =
-          ap (change_with item.0) (w.in_ok-from_str-in-Some.ensures ∙ w.as_str-in-Some.ensures.value) ∙ made in
+          ap (change_with item.0) (w.in_ok-from_str-in-Some.ensures.ok ∙ w.as_str-in-Some.ensures.value) ∙ made in
           record {
             all =
                 ap (λ (v : Vec (TextRange × String Global) Global). changes_of v.items) w.all-is
@@ -51,7 +51,7 @@ loop-range-preserved c =
           let copy : String Global = w.in_ok-from_str-in-None.field-0 in
           let unfit : IsFitted by d None = subst (λ o. IsFitted by d (option_map string_bytes o)) w.in-None.is is in
           let copied : change_of (item.0, copy) ≡ fit d =
-          ap (change_with item.0) (w.in_ok-from_str-in-None.ensures ∙ w.as_str-in-None.ensures.value) ∙ sym (unfit_stays by d unfit) in
+          ap (change_with item.0) (w.in_ok-from_str-in-None.ensures.ok ∙ w.as_str-in-None.ensures.value) ∙ sym (unfit_stays by d unfit) in
           record {
             all =
                 ap (λ (v : Vec (TextRange × String Global) Global). changes_of v.items) w.all-is
