@@ -274,9 +274,7 @@ module _ (stands : Change → Bool) (c : Change) where
   itself_falls false its is = its
 
   pub unfit_falls : IsFitted stands c None → stands (fitted_alone stands c) ≡ false
-  unfit_falls is =
-      ap stands (unfit_stays is)
-      ∙ itself_falls (stands c) refl is
+  unfit_falls is = ap stands (unfit_stays is) ∙ itself_falls (stands c) refl is
 
 -- ** Whether nothing stands around changes.
 
