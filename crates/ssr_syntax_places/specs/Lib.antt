@@ -1,0 +1,6 @@
+pub mod Standing
+pub mod Delimited
+pub mod Core
+pub mod Insides
+pub mod Placing
+pub mod Woven
