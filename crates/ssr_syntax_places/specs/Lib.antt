@@ -4,3 +4,4 @@ pub mod Core
 pub mod Insides
 pub mod Placing
 pub mod Woven
+pub mod LongTexts

@@ -1,5 +1,5 @@
 //! What holds of trees that fit, whatever the code: each function here does nothing, and what it ensures is a law.
-ghost use Rattle.std.specs.Prelude.{Some, ◌≡◌, ◌+◌, ◌<◌, ◌≤◌, ◌&&◌, Bool, true, false, ℕ, List, [], ◌∷◌, ◌++◌, length, IsTrue};
+ghost use Rattle.std.specs.Prelude.{Some, ◌≡◌, ◌+◌, ◌<◌, ◌≤◌, ◌&&◌, Bool, true, false, ℕ, List, [], ◌∷◌, ◌++◌, length, IsTrue, Ok};
 ghost use Rattle.ssr_syntax_kinds.specs.declared.reach.Reach.{Reach};
 ghost use Rattle.ssr_syntax_kinds.specs.declared.kinds.SyntaxKind.{SyntaxKind};
 ghost use Rattle.ssr_syntax_kinds.specs.declared.kinds.SyntaxKind.TheVariants as k;
@@ -24,6 +24,10 @@ ghost use Rattle.std.specs.Str.{IsUtf8};
 ghost use Rattle.ssr_syntax_lex.specs.Seams.{is_seam, has_token_at};
 ghost use Rattle.ssr_syntax_lex.specs.Tokens.{tokens};
 ghost use Rattle.ssr_syntax_places.specs.Insides.{with_inside, IsLexed, HasParts, AreParts};
+ghost use Rattle.ssr_syntax_kinds.specs.declared.fragment.Fragment.TheVariants as fragments;
+ghost use Rattle.ssr_syntax_tree.specs.Syntax.{Syntax};
+ghost use Rattle.ssr_syntax.specs.Reading.{fragment_reading_of, trimmed};
+ghost use Rattle.ssr_syntax_places.specs.LongTexts.{HasForest};
 ghost use Rattle.ssr_syntax_places.specs.Placing.{begins_open, blocks, is_asked, Puts};
 ghost use Rattle.ssr_syntax_places.specs.Standing.{node, closing_marks, is_token, IsPath, token_leaf, Stands, StandsAnywhere, StandsBefore, AreArguments, between, bracketed, with_name};
 
@@ -179,6 +183,12 @@ pub fn many_insides()
         → spell (node kind kids) ≡ solid_parts short (solid_tokens after) → IsTrue (core holes false 12 0 kind kids)
         → (raw : List RawToken) × (tokens (woven long last) ≡ Some raw)
         × Fits (grammar_of reach) (grammar_of reach (Expr Anywhere)) done (filled holes 0 (node kind kids)) (solid_tokens raw) [] }
+{}
+
+/// A long text is read as a short one is.
+pub fn long_texts()
+    ensures behind { (reach : Reach) (text : List ℕ) (syntax : Syntax) → IsUtf8 (trimmed text) → fragment_reading_of reach fragments.Expr text ≡ Ok syntax
+        → HasForest reach text syntax }
 {}
 
 /// Statements in braces are replaced wherever they stand in a tree that fits: with others in their places that fit, too, the

@@ -1,0 +1,85 @@
+-- Long texts that are read as short ones are, in which names stand for insides of the long ones.
+use Rattle.std.specs.Prelude.{◌≡◌, ℕ, ◌+◌, ◌<◌, nat_lt, true, false, ◌&&◌, if◌then◌else◌, ⊤, List, [], ◌∷◌, length, reverse, Some, Result, Ok, Err}
+use Rattle.ssr_syntax_kinds.specs.declared.kinds.SyntaxKind.{SyntaxKind}
+use Rattle.ssr_syntax_kinds.specs.declared.reach.Reach.{Reach}
+use Rattle.ssr_syntax_kinds.specs.declared.fragment.Fragment.TheVariants as fragments
+use Rattle.ssr_syntax_lex.specs.Tokens.{tokens}
+use Rattle.ssr_syntax_lex.specs.declared.tokens.RawToken.{RawToken}
+use Rattle.ssr_syntax_tree.specs.Syntax.{Syntax, depth_of, most_deep}
+use Rattle.ssr_syntax_forms.specs.Fitting.{Fits}
+use Rattle.ssr_syntax_forms.specs.Trees.{Forest, done}
+use Rattle.ssr_syntax_types.specs.declared.goals.Goal.TheVariants.{Expr}
+use Rattle.ssr_syntax_types.specs.declared.goals.ExprPlace.TheVariants.{Anywhere}
+use Rattle.ssr_syntax_rows.specs.Lossless.{whole_tree}
+use Rattle.ssr_syntax_rows.specs.MacroRules.{misnames_macros}
+use Rattle.ssr_syntax_rows.specs.Solid.{begins_solid, pieces, solid_tokens}
+use Rattle.ssr_syntax.specs.Grammar.{grammar_of}
+use Rattle.ssr_syntax.specs.Reading.{trimmed, FitsFragmentOf}
+use Rattle.ssr_syntax.specs.declared.syntax_error.SyntaxError.{SyntaxError}
+use Rattle.ssr_syntax.specs.declared.syntax_error.SyntaxError.TheVariants as errors
+use Rattle.ssr_syntax_places.specs.Core.{Hole, Holes, core}
+use Rattle.ssr_syntax_places.specs.Standing.{node}
+use Rattle.ssr_syntax_places.specs.Woven.{Part}
+
+-- ** The forest behind a tree.
+
+-- The tokens of a text are an expression with these children, and no comment stands around it.
+pub record IsBehind (reach : Reach) (text : List ℕ) (raw : List RawToken) (kind : SyntaxKind) (kids : Forest) : Type 0 where
+  pub lexes : tokens (trimmed text) ≡ Some raw
+  pub outside : (begins_solid raw && begins_solid (reverse raw)) ≡ true
+  pub fits : Fits (grammar_of reach) (grammar_of reach (Expr Anywhere)) done (node kind kids) (solid_tokens raw) []
+
+-- the tree of a text, and the forest behind it
+pub record HasForest (reach : Reach) (text : List ℕ) (syntax : Syntax) : Type 0 where
+  pub raw : List RawToken
+  pub kind : SyntaxKind
+  pub kids : Forest
+  pub behind : IsBehind reach text raw kind kids
+  pub whole : syntax ≡ whole_tree kind kids (pieces (trimmed text) raw)
+
+-- the forest behind the tree of a text, with names that stand for other expressions, is core
+abbrev pub HasCore : Reach → Holes → List ℕ → Type 0
+HasCore reach holes text =
+    (raw : List RawToken) (kind : SyntaxKind) (kids : Forest) → IsBehind reach text raw kind kids → core holes false 12 0 kind kids ≡ true
+
+-- ** Insides.
+
+-- What stands for a name has the tree of the tokens of this text, some and no others, which is an expression by itself. The
+-- words of its macros are right.
+pub record IsInside (reach : Reach) (hole : Hole) (text : List ℕ) (raw : List RawToken) : Type 0 where
+  pub kind : SyntaxKind
+  pub kids : Forest
+  pub tree : hole.tree ≡ node kind kids
+  pub fits : Fits (grammar_of reach) (grammar_of reach (Expr Anywhere)) done hole.tree (solid_tokens raw) []
+  pub some : 0 < length (solid_tokens raw)
+  pub named : misnames_macros (whole_tree kind kids (pieces text raw)) ≡ false
+
+-- The same parts with other insides. In the short text each is a name alone, and in the long one what the name stands for.
+-- `at` is the number of the first token.
+abbrev pub AreInsides : Reach → Holes → ℕ → List Part → List Part → Type 0
+AreInsides reach holes at [] qs = ⊤
+AreInsides reach holes at (p ∷ ps) [] = ⊤
+AreInsides reach holes at (p ∷ ps) (q ∷ qs) =
+    (hole : Hole)
+    × (p.front ≡ q.front)
+    × (p.opening ≡ q.opening)
+    × (length p.within ≡ 1)
+    × (holes (at + length (solid_tokens p.before)) ≡ Some hole)
+    × IsInside reach hole q.inside q.within
+    × AreInsides reach holes ((at + length (solid_tokens p.before)) + 1) ps qs
+
+-- ** What is read.
+
+-- the tree, if it isn't too deep
+abbrev pub unless_deep : Syntax → Result Syntax SyntaxError
+unless_deep syntax = if nat_lt most_deep (depth_of syntax) then Err errors.TooDeep else Ok syntax
+
+-- The whole tree of this forest and of the pieces of a text is what fits the text.
+pub record IsWholeOf (reach : Reach) (text : List ℕ) (forest : Forest) (syntax : Syntax) : Type 0 where
+  pub raw : List RawToken
+  pub kind : SyntaxKind
+  pub kids : Forest
+  pub lexes : tokens (trimmed text) ≡ Some raw
+  pub tree : forest ≡ node kind kids
+  pub whole : syntax ≡ whole_tree kind kids (pieces (trimmed text) raw)
+  pub fits : FitsFragmentOf reach fragments.Expr text syntax
