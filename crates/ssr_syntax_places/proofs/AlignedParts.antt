@@ -15,10 +15,8 @@ use Rattle.ssr_syntax_places.specs.LongTexts.{IsInside, AreInsides}
 use Rattle.ssr_syntax_places.specs.Woven.{Part, AreWoven, solid_parts, pieces_parts, StandFor}
 use Rattle.ssr_syntax_places.proofs.Misnamed.{AllTrivia}
 use Rattle.ssr_syntax_places.proofs.Aligned.{IsFor, Step, AreAligned, aligned_lead, aligned_own}
+use Rattle.ssr_syntax_places.proofs.Insides.{some_same}
 use Rattle.ssr_syntax_places.proofs.PutInside.{IsPutOf, inside_put}
-
-some_same : {A : Type 0} (x y : A) → Some x ≡ Some y → x ≡ y
-some_same x y e = cc
 
 -- ** A name, and what stands for it.
 

@@ -80,7 +80,7 @@ put_inside front inside behind opening closing before within after utf8 opens cl
 
 -- ** Cut apart.
 
-some_same : {A : Type 0} (x y : A) → Some x ≡ Some y → x ≡ y
+pub some_same : {A : Type 0} (x y : A) → Some x ≡ Some y → x ≡ y
 some_same x y e = cc
 
 same_raw : (text : List ℕ) (a b : List RawToken) → tokens text ≡ Some a → tokens text ≡ Some b → a ≡ b

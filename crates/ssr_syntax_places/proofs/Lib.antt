@@ -11,6 +11,7 @@ mod Parentheses
 mod Ahead
 mod Closing
 mod Delimiters
+mod Tables
 mod Delimited
 mod WholeTokens
 mod Alone
@@ -35,4 +36,5 @@ mod Alike
 mod Conditions
 mod Placed
 mod LongReading
+mod Reading
 mod Blocks

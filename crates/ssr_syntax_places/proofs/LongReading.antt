@@ -2,7 +2,9 @@
 use Rattle.std.proofs.Common.{◌≡◌, ℕ, zero, suc, ◌+◌, ◌<◌, Bool, true, false, ◌&&◌, List, [], ◌∷◌, ◌++◌, length, Some, inl, inr, refl, sym, ap, subst, ◌∙◌, arith}
 use Rattle.std.proofs.lemmas.List.{append-nil, length-append}
 use Rattle.std.proofs.lemmas.Bool.{and_parts}
-use Rattle.std.specs.Prelude.{reverse}
+use Rattle.std.specs.Prelude.{◌^◌, reverse, Ok}
+use Rattle.std.specs.Str.{IsUtf8}
+use Rattle.ssr_syntax_kinds.specs.declared.fragment.Fragment.TheVariants as fragments
 use Rattle.ssr_syntax_kinds.specs.declared.kinds.SyntaxKind.{SyntaxKind}
 use Rattle.ssr_syntax_kinds.specs.declared.kinds.SyntaxKind.TheVariants as k
 use Rattle.ssr_syntax_kinds.specs.declared.reach.Reach.{Reach}
@@ -20,13 +22,16 @@ use Rattle.ssr_syntax_rows.specs.Lossless.{past, lossless, whole_tree}
 use Rattle.ssr_syntax_rows.specs.MacroRules.{misnames_macros}
 use Rattle.ssr_syntax_rows.specs.Solid.{begins_solid, solid_tokens, pieces}
 use Rattle.ssr_syntax.specs.Grammar.{grammar_of}
-use Rattle.ssr_syntax.specs.Reading.{trimmed}
+use Rattle.ssr_syntax.specs.Reading.{fragment_reading_of, trimmed}
 use Rattle.ssr_syntax_places.specs.Core.{Hole, Holes, AreFillings, is_no_hole, are_spelled, is_single, core, filled, node_filled}
-use Rattle.ssr_syntax_places.specs.LongTexts.{IsBehind, AreInsides, IsWholeOf}
+use Rattle.ssr_syntax_places.specs.LongTexts.{ArePaired, HasCore, IsBehind, IsReadFilled, IsWholeOf}
 use Rattle.ssr_syntax_places.specs.Standing.{node}
 use Rattle.ssr_syntax_places.specs.Woven.{Part, woven, AreWoven, solid_parts, pieces_parts, StandFor}
-use Rattle.ssr_syntax_places.proofs.AlignedParts.{some_same, aligned_parts}
+use Rattle.ssr_syntax_places.proofs.AlignedParts.{aligned_parts}
 use Rattle.ssr_syntax_places.proofs.Aligned.{AreAligned}
+use Rattle.ssr_syntax_places.proofs.Behind.{forest_behind}
+use Rattle.ssr_syntax_places.proofs.Reading.{fragment_told}
+use Rattle.ssr_syntax_places.proofs.Insides.{some_same}
 use Rattle.ssr_syntax_places.proofs.LongTexts.{long_fits}
 use Rattle.ssr_syntax_places.proofs.Misnamed.{named_whole}
 use Rattle.ssr_syntax_places.proofs.Outside.{front_some, same_outside}
@@ -34,17 +39,6 @@ use Rattle.ssr_syntax_places.proofs.PutInside.{fits_spells}
 use Rattle.ssr_syntax_places.proofs.Templates.{IsName, IsOwn, IsTemplate, AreSpelled, core_template}
 use Rattle.ssr_syntax_places.proofs.Unnamed.{filled_free, whole_named}
 use Rattle.ssr_syntax_places.proofs.Woven.{woven_lexes}
-
--- ** Two texts of parts.
-
--- A short text and a long one: the same parts with names in the place of insides.
-pub record ArePaired (reach : Reach) (holes : Holes) (short long : List Part) (last : List ℕ) (after : List RawToken) : Type 0 where
-  pub fillings : AreFillings reach holes
-  pub short_is : AreWoven short last
-  pub long_is : AreWoven long last
-  pub lexes : tokens last ≡ Some after
-  pub stand : StandFor holes 0 short long (solid_tokens after)
-  pub insides : AreInsides reach holes 0 short long
 
 -- what names stand for has their tokens
 fillings_spelled : (reach : Reach) (holes : Holes) → AreFillings reach holes → AreSpelled holes
@@ -173,3 +167,22 @@ long_whole reach holes short long last after name text raw kind kids paired name
         fits = (made.raw, ap tokens text_is ∙ made.lexes, outside, (kind, z, fits, refl, named));
       },
     )
+
+-- ** What is read.
+
+pub long_read : (reach : Reach) (holes : Holes) (short long : List Part) (last : List ℕ) (after : List RawToken) (name text : List ℕ) (syntax : Syntax)
+    → ArePaired reach holes short long last after → trimmed name ≡ woven short last → trimmed text ≡ woven long last → IsUtf8 (trimmed name)
+    → length text < 2 ^ 32 → fragment_reading_of reach fragments.Expr name ≡ Ok syntax → HasCore reach holes name → IsReadFilled reach holes name text
+long_read reach holes short long last after name text syntax paired name_is text_is utf8 few reads is =
+    let forest = forest_behind reach name syntax utf8 reads in
+    let made = long_whole reach holes short long last after name text forest.raw forest.kind forest.kids paired name_is text_is forest.behind
+    (is forest.raw forest.kind forest.kids forest.behind) in
+    record {
+      raw = forest.raw;
+      kind = forest.kind;
+      kids = forest.kids;
+      syntax = made.0;
+      template = forest.behind;
+      whole = made.1;
+      read = fragment_told reach fragments.Expr text made.0 few made.1.fits;
+    }

@@ -14,12 +14,12 @@ use Rattle.ssr_syntax_rows.specs.Lossless.{whole_tree}
 use Rattle.ssr_syntax_rows.specs.MacroRules.{misnames_macros}
 use Rattle.ssr_syntax_rows.specs.Solid.{begins_solid, pieces, solid_tokens}
 use Rattle.ssr_syntax.specs.Grammar.{grammar_of}
-use Rattle.ssr_syntax.specs.Reading.{trimmed, FitsFragmentOf}
+use Rattle.ssr_syntax.specs.Reading.{fragment_reading_of, trimmed, FitsFragmentOf}
 use Rattle.ssr_syntax.specs.declared.syntax_error.SyntaxError.{SyntaxError}
 use Rattle.ssr_syntax.specs.declared.syntax_error.SyntaxError.TheVariants as errors
-use Rattle.ssr_syntax_places.specs.Core.{Hole, Holes, core}
+use Rattle.ssr_syntax_places.specs.Core.{Hole, Holes, AreFillings, core, filled}
 use Rattle.ssr_syntax_places.specs.Standing.{node}
-use Rattle.ssr_syntax_places.specs.Woven.{Part}
+use Rattle.ssr_syntax_places.specs.Woven.{Part, AreWoven, StandFor}
 
 -- ** The forest behind a tree.
 
@@ -68,6 +68,15 @@ AreInsides reach holes at (p ∷ ps) (q ∷ qs) =
     × IsInside reach hole q.inside q.within
     × AreInsides reach holes ((at + length (solid_tokens p.before)) + 1) ps qs
 
+-- A short text and a long one: the same parts, in the short one with names in the place of insides of the long one.
+pub record ArePaired (reach : Reach) (holes : Holes) (short long : List Part) (last : List ℕ) (after : List RawToken) : Type 0 where
+  pub fillings : AreFillings reach holes
+  pub short_is : AreWoven short last
+  pub long_is : AreWoven long last
+  pub lexes : tokens last ≡ Some after
+  pub stand : StandFor holes 0 short long (solid_tokens after)
+  pub insides : AreInsides reach holes 0 short long
+
 -- ** What is read.
 
 -- the tree, if it isn't too deep
@@ -83,3 +92,14 @@ pub record IsWholeOf (reach : Reach) (text : List ℕ) (forest : Forest) (syntax
   pub tree : forest ≡ node kind kids
   pub whole : syntax ≡ whole_tree kind kids (pieces (trimmed text) raw)
   pub fits : FitsFragmentOf reach fragments.Expr text syntax
+
+-- The long text is read to the whole tree of the filled template, if that isn't too deep. The template is the forest behind the
+-- short text's tree.
+pub record IsReadFilled (reach : Reach) (holes : Holes) (name text : List ℕ) : Type 0 where
+  pub raw : List RawToken
+  pub kind : SyntaxKind
+  pub kids : Forest
+  pub syntax : Syntax
+  pub template : IsBehind reach name raw kind kids
+  pub whole : IsWholeOf reach text (filled holes 0 (node kind kids)) syntax
+  pub read : fragment_reading_of reach fragments.Expr text ≡ unless_deep syntax

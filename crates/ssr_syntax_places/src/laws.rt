@@ -1,5 +1,5 @@
 //! What holds of trees that fit, whatever the code: each function here does nothing, and what it ensures is a law.
-ghost use Rattle.std.specs.Prelude.{Some, ◌≡◌, ◌+◌, ◌<◌, ◌≤◌, ◌&&◌, Bool, true, false, ℕ, List, [], ◌∷◌, ◌++◌, length, IsTrue, Ok};
+ghost use Rattle.std.specs.Prelude.{Some, ◌≡◌, ◌+◌, ◌^◌, ◌<◌, ◌≤◌, ◌&&◌, Bool, true, false, ℕ, List, [], ◌∷◌, ◌++◌, length, IsTrue, Ok};
 ghost use Rattle.ssr_syntax_kinds.specs.declared.reach.Reach.{Reach};
 ghost use Rattle.ssr_syntax_kinds.specs.declared.kinds.SyntaxKind.{SyntaxKind};
 ghost use Rattle.ssr_syntax_kinds.specs.declared.kinds.SyntaxKind.TheVariants as k;
@@ -26,8 +26,9 @@ ghost use Rattle.ssr_syntax_lex.specs.Tokens.{tokens};
 ghost use Rattle.ssr_syntax_places.specs.Insides.{with_inside, IsLexed, HasParts, AreParts};
 ghost use Rattle.ssr_syntax_kinds.specs.declared.fragment.Fragment.TheVariants as fragments;
 ghost use Rattle.ssr_syntax_tree.specs.Syntax.{Syntax};
-ghost use Rattle.ssr_syntax.specs.Reading.{fragment_reading_of, trimmed};
-ghost use Rattle.ssr_syntax_places.specs.LongTexts.{HasForest};
+ghost use Rattle.ssr_syntax_kinds.specs.declared.fragment.Fragment.{Fragment};
+ghost use Rattle.ssr_syntax.specs.Reading.{fragment_reading_of, trimmed, FitsFragmentOf};
+ghost use Rattle.ssr_syntax_places.specs.LongTexts.{ArePaired, HasCore, HasForest, IsBehind, IsReadFilled, IsWholeOf, unless_deep};
 ghost use Rattle.ssr_syntax_places.specs.Placing.{begins_open, blocks, is_asked, Puts};
 ghost use Rattle.ssr_syntax_places.specs.Standing.{node, closing_marks, is_token, IsPath, token_leaf, Stands, StandsAnywhere, StandsBefore, AreArguments, between, bracketed, with_name};
 
@@ -185,10 +186,26 @@ pub fn many_insides()
         × Fits (grammar_of reach) (grammar_of reach (Expr Anywhere)) done (filled holes 0 (node kind kids)) (solid_tokens raw) [] }
 {}
 
-/// A long text is read as a short one is.
+/// What is read of a text has a forest behind it, which fits the text's tokens. What fits is read, unless it is too deep.
+pub fn readings()
+    ensures behind { (reach : Reach) (text : List ℕ) (syntax : Syntax) → IsUtf8 (trimmed text)
+        → fragment_reading_of reach fragments.Expr text ≡ Ok syntax → HasForest reach text syntax }
+    ensures told { (reach : Reach) (fragment : Fragment) (text : List ℕ) (syntax : Syntax) → length text < 2 ^ 32
+        → FitsFragmentOf reach fragment text syntax → fragment_reading_of reach fragment text ≡ unless_deep syntax }
+{}
+
+/// A long text need not be read. With a name in the place of each inside it is a short text, and if the forest behind the
+/// short text's tree is core, the long text's tree is that of the filled template. No inside misnames a macro, so neither
+/// does the whole.
 pub fn long_texts()
-    ensures behind { (reach : Reach) (text : List ℕ) (syntax : Syntax) → IsUtf8 (trimmed text) → fragment_reading_of reach fragments.Expr text ≡ Ok syntax
-        → HasForest reach text syntax }
+    ensures fits { (reach : Reach) (holes : Holes) (short long : List Part) (last : List ℕ) (after : List RawToken) (name text : List ℕ)
+        (raw : List RawToken) (kind : SyntaxKind) (kids : Forest) → ArePaired reach holes short long last after
+        → trimmed name ≡ woven short last → trimmed text ≡ woven long last → IsBehind reach name raw kind kids
+        → IsTrue (core holes false 12 0 kind kids) → (syntax : Syntax) × IsWholeOf reach text (filled holes 0 (node kind kids)) syntax }
+    ensures read { (reach : Reach) (holes : Holes) (short long : List Part) (last : List ℕ) (after : List RawToken) (name text : List ℕ)
+        (syntax : Syntax) → ArePaired reach holes short long last after → trimmed name ≡ woven short last → trimmed text ≡ woven long last
+        → IsUtf8 (trimmed name) → length text < 2 ^ 32 → fragment_reading_of reach fragments.Expr name ≡ Ok syntax
+        → HasCore reach holes name → IsReadFilled reach holes name text }
 {}
 
 /// Statements in braces are replaced wherever they stand in a tree that fits: with others in their places that fit, too, the

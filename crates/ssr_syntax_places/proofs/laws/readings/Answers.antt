@@ -1,0 +1,6 @@
+use Rattle.ssr_syntax_places.proofs.Behind.{forest_behind}
+use Rattle.ssr_syntax_places.proofs.Reading.{fragment_told}
+use Rattle.ssr_syntax_places.proofs.laws.readings.Goals as goal
+
+pub returns : goal.returns
+returns c = record { behind = forest_behind; told = fragment_told }
