@@ -12,6 +12,7 @@ mod Ahead
 mod Closing
 mod Delimiters
 mod Tables
+mod PartLeaves
 mod Delimited
 mod WholeTokens
 mod Alone
@@ -29,6 +30,8 @@ mod Unnamed
 mod PutInside
 mod AlignedParts
 mod Outside
+mod RawKinds
+mod TokenSizes
 mod Behind
 mod LongTexts
 mod Loosest

@@ -5,3 +5,4 @@ pub mod Insides
 pub mod Placing
 pub mod Woven
 pub mod LongTexts
+pub mod PlainCore

@@ -1,5 +1,9 @@
+use Rattle.ssr_syntax_places.proofs.RawKinds.{all_raw_single}
+use Rattle.ssr_syntax_places.proofs.TokenSizes.{all_sized}
 use Rattle.ssr_syntax_places.proofs.Behind.{forest_behind}
 use Rattle.ssr_syntax_places.proofs.Reading.{fragment_told}
+use Rattle.ssr_syntax_places.proofs.PartLeaves.{has_parts}
+use Rattle.ssr_syntax_places.proofs.Delimited.{all_keep_parts}
 use Rattle.ssr_syntax_places.proofs.laws.readings.Goals as goal
 
 pub returns : goal.returns
