@@ -32,6 +32,8 @@ mod AlignedParts
 mod Outside
 mod RawKinds
 mod TokenSizes
+mod LikeForests
+mod LikeCore
 mod Behind
 mod LongTexts
 mod Loosest

@@ -1,3 +1,5 @@
+use Rattle.ssr_syntax_places.proofs.LikeCore.{core_like}
+use Rattle.ssr_syntax_places.proofs.LikeForests.{all_known, forest_like, ampersand_like, leaf_like}
 use Rattle.ssr_syntax_places.proofs.RawKinds.{all_raw_single}
 use Rattle.ssr_syntax_places.proofs.TokenSizes.{all_sized}
 use Rattle.ssr_syntax_places.proofs.Behind.{forest_behind}
