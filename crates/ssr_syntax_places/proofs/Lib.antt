@@ -34,6 +34,7 @@ mod RawKinds
 mod TokenSizes
 mod LikeForests
 mod LikeCore
+mod PlainCore
 mod Behind
 mod LongTexts
 mod Loosest

@@ -24,7 +24,8 @@ use Rattle.ssr_syntax_rows.specs.Solid.{begins_solid, solid_tokens, pieces}
 use Rattle.ssr_syntax.specs.Grammar.{grammar_of}
 use Rattle.ssr_syntax.specs.Reading.{fragment_reading_of, trimmed}
 use Rattle.ssr_syntax_places.specs.Core.{Hole, Holes, AreFillings, is_no_hole, are_spelled, is_single, core, filled, node_filled}
-use Rattle.ssr_syntax_places.specs.LongTexts.{ArePaired, HasCore, IsBehind, IsReadFilled, IsWholeOf}
+use Rattle.ssr_syntax_places.specs.LongTexts.{ArePaired, IsBehind, IsReadFilled, IsWholeOf}
+use Rattle.ssr_syntax_places.specs.PlainCore.{is_core_tree}
 use Rattle.ssr_syntax_places.specs.Standing.{node}
 use Rattle.ssr_syntax_places.specs.Woven.{Part, woven, AreWoven, solid_parts, pieces_parts, StandFor}
 use Rattle.ssr_syntax_places.proofs.AlignedParts.{aligned_parts}
@@ -35,6 +36,7 @@ use Rattle.ssr_syntax_places.proofs.Insides.{some_same}
 use Rattle.ssr_syntax_places.proofs.LongTexts.{long_fits}
 use Rattle.ssr_syntax_places.proofs.Misnamed.{named_whole}
 use Rattle.ssr_syntax_places.proofs.Outside.{front_some, same_outside}
+use Rattle.ssr_syntax_places.proofs.PlainCore.{tree_core}
 use Rattle.ssr_syntax_places.proofs.PutInside.{fits_spells}
 use Rattle.ssr_syntax_places.proofs.Templates.{IsName, IsOwn, IsTemplate, AreSpelled, core_template}
 use Rattle.ssr_syntax_places.proofs.Unnamed.{filled_free, whole_named}
@@ -172,11 +174,13 @@ long_whole reach holes short long last after name text raw kind kids paired name
 
 pub long_read : (reach : Reach) (holes : Holes) (short long : List Part) (last : List ℕ) (after : List RawToken) (name text : List ℕ) (syntax : Syntax)
     → ArePaired reach holes short long last after → trimmed name ≡ woven short last → trimmed text ≡ woven long last → IsUtf8 (trimmed name)
-    → length text < 2 ^ 32 → fragment_reading_of reach fragments.Expr name ≡ Ok syntax → HasCore reach holes name → IsReadFilled reach holes name text
+    → length text < 2 ^ 32 → fragment_reading_of reach fragments.Expr name ≡ Ok syntax → is_core_tree holes false 12 syntax ≡ true
+    → IsReadFilled reach holes name text
 long_read reach holes short long last after name text syntax paired name_is text_is utf8 few reads is =
     let forest = forest_behind reach name syntax utf8 reads in
-    let made = long_whole reach holes short long last after name text forest.raw forest.kind forest.kids paired name_is text_is forest.behind
-    (is forest.raw forest.kind forest.kids forest.behind) in
+    let template : core holes false 12 0 forest.kind forest.kids ≡ true =
+    tree_core reach holes false 12 name forest.raw forest.kind forest.kids forest.behind (ap (is_core_tree holes false 12) (sym forest.whole) ∙ is) in
+    let made = long_whole reach holes short long last after name text forest.raw forest.kind forest.kids paired name_is text_is forest.behind template in
     record {
       raw = forest.raw;
       kind = forest.kind;

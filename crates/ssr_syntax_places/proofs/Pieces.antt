@@ -182,7 +182,7 @@ begins_behind (suc n) t ts us solid some =
     ap (λ b. if b then behind_trivia rest else t ∷ rest) solid
 
 -- behind all solid ones only white space and comments are left
-past_all : (n : ℕ) (ts : List plain.Token) → n ≡ solid_count ts → AllTrivia (past n ts)
+pub past_all : (n : ℕ) (ts : List plain.Token) → n ≡ solid_count ts → AllTrivia (past n ts)
 past_all n [] all = tt
 past_all zero (t ∷ ts) all =
     by_kind (λ b. zero ≡ (if b then solid_count ts else suc (solid_count ts)) → (is_trivia t.kind ≡ true) × AllTrivia ts) t

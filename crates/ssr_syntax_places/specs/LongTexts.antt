@@ -17,7 +17,7 @@ use Rattle.ssr_syntax.specs.Grammar.{grammar_of}
 use Rattle.ssr_syntax.specs.Reading.{fragment_reading_of, trimmed, FitsFragmentOf}
 use Rattle.ssr_syntax.specs.declared.syntax_error.SyntaxError.{SyntaxError}
 use Rattle.ssr_syntax.specs.declared.syntax_error.SyntaxError.TheVariants as errors
-use Rattle.ssr_syntax_places.specs.Core.{Hole, Holes, AreFillings, core, filled}
+use Rattle.ssr_syntax_places.specs.Core.{Hole, Holes, AreFillings, filled}
 use Rattle.ssr_syntax_places.specs.Standing.{node}
 use Rattle.ssr_syntax_places.specs.Woven.{Part, AreWoven, StandFor}
 
@@ -36,11 +36,6 @@ pub record HasForest (reach : Reach) (text : List ℕ) (syntax : Syntax) : Type 
   pub kids : Forest
   pub behind : IsBehind reach text raw kind kids
   pub whole : syntax ≡ whole_tree kind kids (pieces (trimmed text) raw)
-
--- the forest behind the tree of a text, with names that stand for other expressions, is core
-abbrev pub HasCore : Reach → Holes → List ℕ → Type 0
-HasCore reach holes text =
-    (raw : List RawToken) (kind : SyntaxKind) (kids : Forest) → IsBehind reach text raw kind kids → core holes false 12 0 kind kids ≡ true
 
 -- ** Insides.
 

@@ -1,12 +1,14 @@
 -- The forest behind a plain tree, told by the kinds of its tokens.
-use Rattle.std.specs.Prelude.{ℕ, ◌-◌, if◌then◌else◌, List, ◌∷◌, [], replicate}
+use Rattle.std.specs.Prelude.{ℕ, Bool, ◌-◌, if◌then◌else◌, List, ◌∷◌, [], replicate}
 use Rattle.ssr_syntax_kinds.specs.Kinds.{is_trivia}
 use Rattle.ssr_syntax_kinds.specs.declared.kinds.SyntaxKind.{SyntaxKind}
 use Rattle.ssr_syntax_kinds.specs.declared.kinds.SyntaxKind.TheVariants as k
 use Rattle.ssr_syntax_tree.specs.Syntax as plain
+use Rattle.ssr_syntax_tree.specs.Syntax.{Syntax}
 use Rattle.ssr_syntax_forms.specs.declared.tokens.Token.{Token}
 use Rattle.ssr_syntax_forms.specs.Kinds.{mem}
 use Rattle.ssr_syntax_forms.specs.Trees.{Forest, done, leaf, tree}
+use Rattle.ssr_syntax_places.specs.Core.{Holes, core}
 
 -- the kinds that are joined from two tokens, and those that are joined from three
 abbrev pub of_two : List SyntaxKind
@@ -31,3 +33,7 @@ abbrev pub forest_in : plain.Forest → Forest
 forest_in plain.nothing = done
 forest_in (plain.leaf token x) = if is_trivia token.kind then forest_in x else leaf token.kind (tokens_like token.kind) (forest_in x)
 forest_in (plain.branch kind below x) = tree kind (forest_in below) (forest_in x)
+
+-- a tree, in which names stand for other expressions, is core by the kinds of its tokens; see `core`
+abbrev pub is_core_tree : Holes → Bool → ℕ → Syntax → Bool
+is_core_tree holes callable n syntax = core holes callable n 0 syntax.kind (forest_in syntax.children)

@@ -28,7 +28,9 @@ ghost use Rattle.ssr_syntax_kinds.specs.declared.fragment.Fragment.TheVariants a
 ghost use Rattle.ssr_syntax_tree.specs.Syntax.{Syntax};
 ghost use Rattle.ssr_syntax_kinds.specs.declared.fragment.Fragment.{Fragment};
 ghost use Rattle.ssr_syntax.specs.Reading.{fragment_reading_of, trimmed, FitsFragmentOf};
-ghost use Rattle.ssr_syntax_places.specs.LongTexts.{ArePaired, HasCore, HasForest, IsBehind, IsReadFilled, IsWholeOf, unless_deep};
+ghost use Rattle.ssr_syntax_places.specs.LongTexts.{ArePaired, HasForest, IsBehind, IsReadFilled, IsWholeOf, unless_deep};
+ghost use Rattle.ssr_syntax_places.specs.PlainCore.{is_core_tree};
+ghost use Rattle.ssr_syntax_rows.specs.Lossless.{whole_tree};
 ghost use Rattle.ssr_syntax_places.specs.Placing.{begins_open, blocks, is_asked, Puts};
 ghost use Rattle.ssr_syntax_places.specs.Standing.{node, closing_marks, is_token, IsPath, token_leaf, Stands, StandsAnywhere, StandsBefore, AreArguments, between, bracketed, with_name};
 
@@ -187,15 +189,19 @@ pub fn many_insides()
 {}
 
 /// What is read of a text has a forest behind it, which fits the text's tokens. What fits is read, unless it is too deep.
+/// The forest is core if the kinds of the tree's tokens say so: a walk over the tree decides.
 pub fn readings()
     ensures behind { (reach : Reach) (text : List ℕ) (syntax : Syntax) → IsUtf8 (trimmed text)
         → fragment_reading_of reach fragments.Expr text ≡ Ok syntax → HasForest reach text syntax }
     ensures told { (reach : Reach) (fragment : Fragment) (text : List ℕ) (syntax : Syntax) → length text < 2 ^ 32
         → FitsFragmentOf reach fragment text syntax → fragment_reading_of reach fragment text ≡ unless_deep syntax }
+    ensures core { (reach : Reach) (holes : Holes) (callable : Bool) (n : ℕ) (text : List ℕ) (raw : List RawToken) (kind : SyntaxKind) (kids : Forest)
+        → IsBehind reach text raw kind kids → IsTrue (is_core_tree holes callable n (whole_tree kind kids (pieces (trimmed text) raw)))
+        → IsTrue (core holes callable n 0 kind kids) }
 {}
 
-/// A long text need not be read. With a name in the place of each inside it is a short text, and if the forest behind the
-/// short text's tree is core, the long text's tree is that of the filled template. No inside misnames a macro, so neither
+/// A long text need not be read. With a name in the place of each inside it is a short text, and if the short text's tree is
+/// core, the long text's tree is that of the filled template. No inside misnames a macro, so neither
 /// does the whole.
 pub fn long_texts()
     ensures fits { (reach : Reach) (holes : Holes) (short long : List Part) (last : List ℕ) (after : List RawToken) (name text : List ℕ)
@@ -205,7 +211,7 @@ pub fn long_texts()
     ensures read { (reach : Reach) (holes : Holes) (short long : List Part) (last : List ℕ) (after : List RawToken) (name text : List ℕ)
         (syntax : Syntax) → ArePaired reach holes short long last after → trimmed name ≡ woven short last → trimmed text ≡ woven long last
         → IsUtf8 (trimmed name) → length text < 2 ^ 32 → fragment_reading_of reach fragments.Expr name ≡ Ok syntax
-        → HasCore reach holes name → IsReadFilled reach holes name text }
+        → IsTrue (is_core_tree holes false 12 syntax) → IsReadFilled reach holes name text }
 {}
 
 /// Statements in braces are replaced wherever they stand in a tree that fits: with others in their places that fit, too, the
