@@ -35,6 +35,7 @@ mod TokenSizes
 mod LikeForests
 mod LikeCore
 mod PlainCore
+mod Spans
 mod Behind
 mod LongTexts
 mod Loosest

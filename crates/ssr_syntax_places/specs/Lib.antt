@@ -6,3 +6,4 @@ pub mod Placing
 pub mod Woven
 pub mod LongTexts
 pub mod PlainCore
+pub mod Spans
