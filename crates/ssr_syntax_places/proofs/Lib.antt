@@ -36,6 +36,7 @@ mod LikeForests
 mod LikeCore
 mod PlainCore
 mod Spans
+mod Measured
 mod Behind
 mod LongTexts
 mod Loosest
