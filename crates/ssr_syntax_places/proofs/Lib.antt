@@ -37,6 +37,7 @@ mod LikeCore
 mod PlainCore
 mod Spans
 mod Measured
+mod SpansFilled
 mod Behind
 mod LongTexts
 mod Loosest

@@ -70,12 +70,12 @@ run_bytes n m lead put rest all run =
       upto_bytes m rest,
     )
 
-lead_gap : (n m : ℕ) (lead put rest : List plain.Token) → AllTrivia lead → IsRun n put → gap (suc m) (lead ++ (put ++ rest)) ≡ lead
+pub lead_gap : (n m : ℕ) (lead put rest : List plain.Token) → AllTrivia lead → IsRun n put → gap (suc m) (lead ++ (put ++ rest)) ≡ lead
 lead_gap n m lead put rest all run =
     trivia_lead lead (put ++ rest) all ∙ ap (λ l. lead ++ l) (run.front rest) ∙ append-nil lead
 
 -- the sums of bytes at a step
-upto_step : (c : ℕ) (at n : ℕ) (ts lead : List plain.Token) (token : plain.Token) (rest : List plain.Token) → ts ≡ lead ++ (token ∷ rest)
+pub upto_step : (c : ℕ) (at n : ℕ) (ts lead : List plain.Token) (token : plain.Token) (rest : List plain.Token) → ts ≡ lead ++ (token ∷ rest)
     → AllTrivia lead → is_trivia token.kind ≡ false → n ≡ suc c
     → at + bytes (upto n ts) ≡ ((at + bytes lead) + length token.text) + bytes (upto c rest)
 upto_step c at n ts lead token rest e all solid count =
@@ -88,14 +88,14 @@ upto_step c at n ts lead token rest e all solid count =
       bytes_first token [],
     )
 
-upto_put : (n c at : ℕ) (us lead put rest : List plain.Token) → us ≡ lead ++ (put ++ rest) → AllTrivia lead → IsRun n put
+pub upto_put : (n c at : ℕ) (us lead put rest : List plain.Token) → us ≡ lead ++ (put ++ rest) → AllTrivia lead → IsRun n put
     → at + bytes (upto (n + c) us) ≡ ((at + bytes lead) + bytes put) + bytes (upto c rest)
 upto_put n c at us lead put rest e all run =
     omega (arith, ap (λ l. bytes (upto (n + c) l)) e, run_bytes n c lead put rest all run)
 
 -- ** Past some tokens.
 
-no_bytes : (at : ℕ) (ts : List plain.Token) → at ≡ at + bytes (upto zero ts)
+pub no_bytes : (at : ℕ) (ts : List plain.Token) → at ≡ at + bytes (upto zero ts)
 no_bytes at ts = omega (arith, ap bytes (upto-zero ts))
 
 pub measured_past : (holes : Holes) (e : Ends) (number c n k at long : ℕ) (ts us : List plain.Token) → k ≡ c + n → AreMeasured holes e number k at long ts us

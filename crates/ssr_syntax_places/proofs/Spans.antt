@@ -150,7 +150,7 @@ tokens_before : (ts : List plain.Token) (x : plain.Forest) → tokens_in (before
 tokens_before [] x = refl
 tokens_before (t ∷ ts) x = ap (λ l. t ∷ l) (tokens_before ts x)
 
-upto_gap : (n : ℕ) (ts : List plain.Token) → upto n ts ≡ gap n ts ++ upto n (behind_gap n ts)
+pub upto_gap : (n : ℕ) (ts : List plain.Token) → upto n ts ≡ gap n ts ++ upto n (behind_gap n ts)
 upto_gap zero ts = refl
 upto_gap (suc n) ts = upto-behind_trivia n ts
 

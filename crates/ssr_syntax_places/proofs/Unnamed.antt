@@ -57,7 +57,7 @@ record IsFreeNode (w : Word) (z : Forest) (us : List plain.Token) : Type 0 where
   pub tree : z ≡ node kind kids
   pub free : IsFree w (branch kind (lossless kids (behind_gap (length (spell kids)) us)) nothing)
 
-single_length : (us : List Token) → is_single us ≡ true → length us ≡ 1
+pub single_length : (us : List Token) → is_single us ≡ true → length us ≡ 1
 single_length [] is = absurd (cc)
 single_length (t ∷ []) is = refl
 single_length (t ∷ u ∷ us) is = absurd (cc)
@@ -129,7 +129,7 @@ joined_free w z x us is others =
 
 -- ** All nodes.
 
-filled_length : (holes : Holes) → AreSpelled holes → (at : ℕ) (kind : SyntaxKind) (kids : Forest) → IsNodeTemplate holes at kind kids
+pub filled_length : (holes : Holes) → AreSpelled holes → (at : ℕ) (kind : SyntaxKind) (kids : Forest) → IsNodeTemplate holes at kind kids
     → length (spell (node_filled holes at kind kids)) ≡ filled_size holes at (length (spell kids))
 filled_length holes are at kind kids is =
     ap length (node_tokens holes are at kind kids is) ∙ tokens_size holes at (spell kids)
