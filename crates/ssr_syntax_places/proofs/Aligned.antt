@@ -162,6 +162,10 @@ spelled_size holes at us is = sym (tokens_size holes at us) ∙ ap length (own h
 
 -- ** More white space and comments in front.
 
+pub append_trivia : (ts us : List plain.Token) → AllTrivia ts → AllTrivia us → AllTrivia (ts ++ us)
+append_trivia [] us h k = k
+append_trivia (t ∷ ts) us h k = (h.0, append_trivia ts us h.1 k)
+
 pub aligned_lead : (holes : Holes) (at n : ℕ) (lead long_lead ts us : List plain.Token) → AllTrivia lead → AllTrivia long_lead
     → AreAligned holes at n ts us → AreAligned holes at n (lead ++ ts) (long_lead ++ us)
 aligned_lead holes at zero lead long_lead ts us all long_all are = tt
@@ -179,14 +183,11 @@ aligned_lead holes at (suc n) lead long_lead ts us all long_all are = record {
   solid = are.solid;
   is = are.is;
   rest = are.rest;
-} where
-  append_trivia : (ts us : List plain.Token) → AllTrivia ts → AllTrivia us → AllTrivia (ts ++ us)
-  append_trivia [] us h k = k
-  append_trivia (t ∷ ts) us h k = (h.0, append_trivia ts us h.1 k)
+}
 
 -- ** The pieces of tokens that stand for themselves.
 
-is_for_itself : (o : Option Hole) (t : plain.Token) → is_no_hole o ≡ true → IsFor o t (t ∷ [])
+pub is_for_itself : (o : Option Hole) (t : plain.Token) → is_no_hole o ≡ true → IsFor o t (t ∷ [])
 is_for_itself None t is = refl
 is_for_itself (Some hole) t is = absurd (cc)
 

@@ -38,6 +38,7 @@ mod PlainCore
 mod Spans
 mod Measured
 mod SpansFilled
+mod MeasuredParts
 mod Behind
 mod LongTexts
 mod Loosest

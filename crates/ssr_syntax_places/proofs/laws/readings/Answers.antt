@@ -1,3 +1,4 @@
+use Rattle.ssr_syntax_places.proofs.MeasuredParts.{measured_parts}
 use Rattle.ssr_syntax_places.proofs.SpansFilled.{filled_spans}
 use Rattle.ssr_syntax_places.proofs.Measured.{measured_gap, measured_end, measured_past}
 use Rattle.ssr_syntax_places.proofs.Spans.{tree_spans, span_tree, span_leaf}
