@@ -39,6 +39,7 @@ mod Spans
 mod Measured
 mod SpansFilled
 mod MeasuredParts
+mod LongNodes
 mod Behind
 mod LongTexts
 mod Loosest

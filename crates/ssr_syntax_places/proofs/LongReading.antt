@@ -43,7 +43,7 @@ use Rattle.ssr_syntax_places.proofs.Unnamed.{filled_free, whole_named}
 use Rattle.ssr_syntax_places.proofs.Woven.{woven_lexes}
 
 -- what names stand for has their tokens
-fillings_spelled : (reach : Reach) (holes : Holes) → AreFillings reach holes → AreSpelled holes
+pub fillings_spelled : (reach : Reach) (holes : Holes) → AreFillings reach holes → AreSpelled holes
 fillings_spelled reach holes are number hole held =
     let closing : Token = record { kind = k.R_PAREN; joined = k.R_PAREN; size = 1 } in
     fits_spells reach (Expr Anywhere) hole.tree hole.tokens (closing ∷ []) ((are number hole held).inside (closing ∷ []) refl [])
@@ -77,11 +77,11 @@ template_spelled reach text raw kind kids behind =
     sym (append-nil (spell kids)) ∙ fits_spells reach (Expr Anywhere) (node kind kids) (solid_tokens raw) [] behind.fits
 
 -- the template that the short text is
-record IsTemplateOf (reach : Reach) (holes : Holes) (short long : List Part) (after : List RawToken) (kind : SyntaxKind) (kids : Forest) : Type 0 where
+pub record IsTemplateOf (reach : Reach) (holes : Holes) (short long : List Part) (after : List RawToken) (kind : SyntaxKind) (kids : Forest) : Type 0 where
   pub own : IsOwn holes 0 kind kids (IsTemplate holes 0 kids)
   pub spells : spell kids ≡ solid_parts short (solid_tokens after)
 
-template_of : (reach : Reach) (holes : Holes) (short long : List Part) (last : List ℕ) (after : List RawToken) (name : List ℕ) (raw : List RawToken)
+pub template_of : (reach : Reach) (holes : Holes) (short long : List Part) (last : List ℕ) (after : List RawToken) (name : List ℕ) (raw : List RawToken)
     (kind : SyntaxKind) (kids : Forest) → ArePaired reach holes short long last after → trimmed name ≡ woven short last
     → IsBehind reach name raw kind kids → core holes false 12 0 kind kids ≡ true → IsTemplateOf reach holes short long after kind kids
 template_of reach holes short long last after name raw kind kids paired text behind is =
@@ -112,7 +112,7 @@ long_named reach holes short long last after kind kids us paired template same =
     (λ w. filled_free w holes (fillings_spelled reach holes paired.fillings) 0 n kids ts us (omega (arith, few)) template.own.below aligned))
 
 -- the filled template is one node
-root_filled : (holes : Holes) (kind : SyntaxKind) (kids : Forest) → IsOwn holes 0 kind kids (IsTemplate holes 0 kids)
+pub root_filled : (holes : Holes) (kind : SyntaxKind) (kids : Forest) → IsOwn holes 0 kind kids (IsTemplate holes 0 kids)
     → filled holes 0 (node kind kids) ≡ node kind (filled holes 0 kids)
 root_filled holes kind kids own = ap (λ y. join y done) own.filled
 

@@ -1,7 +1,3 @@
-use Rattle.ssr_syntax_places.proofs.MeasuredParts.{measured_parts}
-use Rattle.ssr_syntax_places.proofs.SpansFilled.{filled_spans}
-use Rattle.ssr_syntax_places.proofs.Measured.{measured_gap, measured_end, measured_past}
-use Rattle.ssr_syntax_places.proofs.Spans.{tree_spans, span_tree, span_leaf}
 use Rattle.ssr_syntax_places.proofs.Behind.{forest_behind}
 use Rattle.ssr_syntax_places.proofs.PlainCore.{tree_core}
 use Rattle.ssr_syntax_places.proofs.Reading.{fragment_told}
