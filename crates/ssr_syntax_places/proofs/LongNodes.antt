@@ -15,9 +15,9 @@ use Rattle.ssr_syntax_rows.proofs.Shared.{upto-past}
 use Rattle.ssr_syntax.specs.Reading.{trimmed}
 use Rattle.ssr_syntax_places.specs.Core.{Holes, core, filled}
 use Rattle.ssr_syntax_places.specs.LongTexts.{ArePaired, AreInsides, IsBehind, IsWholeOf}
-use Rattle.ssr_syntax_places.specs.Spans.{has_node_at, inside_at, IsPlace}
+use Rattle.ssr_syntax_places.specs.Spans.{has_node_at, inside_at, IsSamePlace, BeginsHere, EndsHere, AreSameBytes}
 use Rattle.ssr_syntax_places.specs.Standing.{node}
-use Rattle.ssr_syntax_places.specs.Woven.{Part, woven, AreWoven, solid_parts, pieces_parts}
+use Rattle.ssr_syntax_places.specs.Woven.{Part, woven, AreWoven, solid_parts, pieces_parts, StandFor}
 use Rattle.ssr_syntax_places.proofs.Insides.{some_same}
 use Rattle.ssr_syntax_places.proofs.LongReading.{IsTemplateOf, fillings_spelled, root_filled, template_of}
 use Rattle.ssr_syntax_places.proofs.Measured.{Ends, AreMeasured}
@@ -56,16 +56,7 @@ whole_spans kind z ts front from to =
     ∙ ap (λ l. (0 == from && l == to) || (has_span 0 from to children || false)) all
     ∙ ap (λ b. (0 == from && bytes ts == to) || b) (or-false (has_span 0 from to children) ∙ span_behind 0 from to (lossless z ts) rest)
 
--- ** Places.
-
--- the beginnings of both texts are the same place, and no other is
-begin_alike : (ps qs : List Part) (n m : ℕ) → IsPlace ps qs n m → (0 == n) ≡ (0 == m)
-begin_alike [] [] n m is = ap (λ l. 0 == l) is
-begin_alike [] (q ∷ qs) n m is = absurd is
-begin_alike (p ∷ ps) [] n m is = absurd is
-begin_alike (p ∷ ps) (q ∷ qs) n m (inl front) = ap (λ l. 0 == l) front.0
-begin_alike (p ∷ ps) (q ∷ qs) n m (inr (i, j, first, second, some, more, same)) =
-    both_fail 0 n 0 m (λ e. omega (arith, e, first, some)) (λ e. omega (arith, e, second, more))
+-- ** The bytes of the roots.
 
 part_bytes : (p : Part) (ps : List Part) (last : List ℕ) (rest : List plain.Token) → AreWoven (p ∷ ps) last
     → bytes (pieces_parts (p ∷ ps) rest) ≡ (inside_at p + length p.inside) + bytes (pieces_parts ps rest)
@@ -80,50 +71,62 @@ part_bytes p ps last rest (utf8, opens, front_is, inside_is, seam, all) =
       text_bytes p.inside p.within inside_is.utf8 inside_is.lexes,
     )
 
--- so are their ends
-end_alike : (reach : Reach) (holes : Holes) (at : ℕ) (ps qs : List Part) (last : List ℕ) (rest : List plain.Token) (n m : ℕ) → AreWoven ps last → AreWoven qs last
-    → AreInsides reach holes at ps qs → IsPlace ps qs n m → (bytes (pieces_parts ps rest) == n) ≡ (bytes (pieces_parts qs rest) == m)
-end_alike reach holes at [] [] last rest n m is other insides same = ap (λ l. bytes rest == l) same
-end_alike reach holes at [] (q ∷ qs) last rest n m is other insides same = absurd same
-end_alike reach holes at (p ∷ ps) [] last rest n m is other insides same = absurd same
-end_alike reach holes at (p ∷ ps) (q ∷ qs) last rest n m is other (known, front, opening, one, held, inside, insides) (inl same) =
+-- the beginnings of both texts are the same place, and no other is
+begin_alike : (ps qs : List Part) (n m : ℕ) → IsSamePlace BeginsHere ps qs n m → (0 == n) ≡ (0 == m)
+begin_alike [] [] n m is = ap (λ l. 0 == l) is
+begin_alike [] (q ∷ qs) n m is = absurd is
+begin_alike (p ∷ ps) [] n m is = absurd is
+begin_alike (p ∷ ps) (q ∷ qs) n m (inl (inl front)) = ap (λ l. 0 == l) front.0
+begin_alike (p ∷ ps) (q ∷ qs) n m (inl (inr here)) = both_fail 0 n 0 m (λ e. omega (arith, e, here.0)) (λ e. omega (arith, e, here.1))
+begin_alike (p ∷ ps) (q ∷ qs) n m (inr (i, j, first, second, some, more, same)) =
+    both_fail 0 n 0 m (λ e. omega (arith, e, first, some)) (λ e. omega (arith, e, second, more))
+
+-- so are their ends, of which one may be that of an inside
+rest_alike : (holes : Holes) (at : ℕ) (ps qs : List Part) (last : List ℕ) (after : List RawToken) (rest : List plain.Token) → AreWoven ps last → AreWoven qs last
+    → StandFor holes at ps qs (solid_tokens after) → (bytes (pieces_parts ps rest) == 0) ≡ (bytes (pieces_parts qs rest) == 0)
+rest_alike holes at [] [] last after rest is other stand = refl
+rest_alike holes at [] (q ∷ qs) last after rest is other stand = absurd stand
+rest_alike holes at (p ∷ ps) [] last after rest is other stand = absurd stand
+rest_alike holes at (p ∷ ps) (q ∷ qs) last after rest is other stand =
     let short = part_bytes p ps last rest is in
     let longer = part_bytes q qs last rest other in
-    let alike : inside_at q ≡ inside_at p = ap (λ l. length l + 1) (sym front) in
+    both_fail (bytes (pieces_parts (p ∷ ps) rest)) 0 (bytes (pieces_parts (q ∷ qs) rest)) 0 (λ e. omega (arith, e, short)) (λ e. omega (arith, e, longer))
+
+end_alike : (reach : Reach) (holes : Holes) (at : ℕ) (ps qs : List Part) (last : List ℕ) (after : List RawToken) (rest : List plain.Token) (n m : ℕ)
+    → AreWoven ps last → AreWoven qs last → StandFor holes at ps qs (solid_tokens after) → AreInsides reach holes at ps qs → IsSamePlace EndsHere ps qs n m
+    → (bytes (pieces_parts ps rest) == n) ≡ (bytes (pieces_parts qs rest) == m)
+end_alike reach holes at [] [] last after rest n m is other stand insides same = ap (λ l. bytes rest == l) same
+end_alike reach holes at [] (q ∷ qs) last after rest n m is other stand insides same = absurd same
+end_alike reach holes at (p ∷ ps) [] last after rest n m is other stand insides same = absurd same
+end_alike reach holes at (p ∷ ps) (q ∷ qs) last after rest n m is other (hole, alike, own, single, held, filling, others) (known, front, opening, one, known_held, inside, insides) (inl (inl same)) =
+    let short = part_bytes p ps last rest is in
+    let longer = part_bytes q qs last rest other in
+    let begin : inside_at q ≡ inside_at p = ap (λ l. length l + 1) (sym front) in
     both_fail (bytes (pieces_parts (p ∷ ps) rest)) n (bytes (pieces_parts (q ∷ qs) rest)) m
-    (λ e. omega (arith, e, short, same.1)) (λ e. omega (arith, e, longer, alike, same.0, same.1))
-end_alike reach holes at (p ∷ ps) (q ∷ qs) last rest n m is other (known, front, opening, one, held, inside, insides) (inr (i, j, first, second, some, more, same)) =
+    (λ e. omega (arith, e, short, same.1)) (λ e. omega (arith, e, longer, begin, same.0, same.1))
+end_alike reach holes at (p ∷ ps) (q ∷ qs) last after rest n m is other (hole, alike, own, single, held, filling, others) (known, front, opening, one, known_held, inside, insides) (inl (inr here)) =
+    let short = part_bytes p ps last rest is in
+    let longer = part_bytes q qs last rest other in
+    let a : ℕ = bytes (pieces_parts ps rest) in
+    let b : ℕ = bytes (pieces_parts qs rest) in
+    same_tests (bytes (pieces_parts (p ∷ ps) rest)) n a 0 (λ e. omega (arith, e, short, here.0)) (λ e. omega (arith, e, short, here.0))
+    ∙ rest_alike holes ((at + length (solid_tokens p.before)) + 1) ps qs last after rest is.5 other.5 others
+    ∙ same_tests b 0 (bytes (pieces_parts (q ∷ qs) rest)) m (λ e. omega (arith, e, longer, here.1)) (λ e. omega (arith, e, longer, here.1))
+end_alike reach holes at (p ∷ ps) (q ∷ qs) last after rest n m is other (hole, alike, own, single, held, filling, others) (known, front, opening, one, known_held, inside, insides) (inr (i, j, first, second, some, more, same)) =
     let short = part_bytes p ps last rest is in
     let longer = part_bytes q qs last rest other in
     let a : ℕ = bytes (pieces_parts ps rest) in
     let b : ℕ = bytes (pieces_parts qs rest) in
     same_tests (bytes (pieces_parts (p ∷ ps) rest)) n a i (λ e. omega (arith, e, short, first)) (λ e. omega (arith, e, short, first))
-    ∙ end_alike reach holes ((at + length (solid_tokens p.before)) + 1) ps qs last rest i j is.5 other.5 insides same
+    ∙ end_alike reach holes ((at + length (solid_tokens p.before)) + 1) ps qs last after rest i j is.5 other.5 others insides same
     ∙ same_tests b j (bytes (pieces_parts (q ∷ qs) rest)) m (λ e. omega (arith, e, longer, second)) (λ e. omega (arith, e, longer, second))
-
--- what lies behind in the one text lies behind in the other
-places_grow : (reach : Reach) (holes : Holes) (at : ℕ) (ps qs : List Part) (n m a b : ℕ) → AreInsides reach holes at ps qs → IsPlace ps qs n m
-    → IsPlace ps qs a b → n < a → m < b
-places_grow reach holes at [] [] n m a b insides is other less = omega (arith, is, other, less)
-places_grow reach holes at [] (q ∷ qs) n m a b insides is other less = absurd is
-places_grow reach holes at (p ∷ ps) [] n m a b insides is other less = absurd is
-places_grow reach holes at (p ∷ ps) (q ∷ qs) n m a b (known, front, opening, one, held, inside, insides) (inl is) (inl other) less =
-    omega (arith, is.0, other.0, less)
-places_grow reach holes at (p ∷ ps) (q ∷ qs) n m a b (known, front, opening, one, held, inside, insides) (inl is) (inr (i, j, first, second, some, more, same)) less =
-    let alike : inside_at q ≡ inside_at p = ap (λ l. length l + 1) (sym front) in
-    omega (arith, is.0, is.1, second, alike)
-places_grow reach holes at (p ∷ ps) (q ∷ qs) n m a b (known, front, opening, one, held, inside, insides) (inr (i, j, first, second, some, more, same)) (inl other) less =
-    absurd (omega (arith, first, other.1, less))
-places_grow reach holes at (p ∷ ps) (q ∷ qs) n m a b (known, front, opening, one, held, inside, insides) (inr (i, j, first, second, some, more, same)) (inr (k, l, third, fourth, any, others, alike)) less =
-    let grows : j < l = places_grow reach holes ((at + length (solid_tokens p.before)) + 1) ps qs i j k l insides same alike (omega (arith, first, third, less)) in
-    omega (arith, second, fourth, grows)
 
 -- ** Both trees.
 
 -- the template's nodes and those of the filled template, of these pieces
 laid_alike : (reach : Reach) (holes : Holes) (e : Ends) (short long : List Part) (last : List ℕ) (after : List RawToken) (kind : SyntaxKind) (kids : Forest)
     → ArePaired reach holes short long last after → IsTemplateOf reach holes short long after kind kids
-    → IsPlace short long e.from e.long_from → IsPlace short long e.to e.long_to → (front long_front : ℕ)
+    → IsSamePlace BeginsHere short long e.from e.long_from → IsSamePlace EndsHere short long e.to e.long_to → (front long_front : ℕ)
     → has_node_at (whole_tree kind kids (pieces_parts short (pieces last after))) front (front + e.from) (front + e.to)
     ≡ has_node_at (whole_tree kind (filled holes 0 kids) (pieces_parts long (pieces last after))) long_front (long_front + e.long_from) (long_front + e.long_to)
 laid_alike reach holes e short long last after kind kids paired template from to front long_front =
@@ -132,15 +135,15 @@ laid_alike reach holes e short long last after kind kids paired template from to
     let us : List plain.Token = pieces_parts long rest in
     let n : ℕ = length (solid_parts short (solid_tokens after)) in
     let few : length (spell kids) ≡ n = ap length template.spells in
-    let first : IsAhead short long 0 0 e.from e.long_from = inr (e.from, e.long_from, omega arith, omega arith, from) in
-    let behind : IsAhead short long 0 0 e.to e.long_to = inr (e.to, e.long_to, omega arith, omega arith, to) in
+    let first : IsAhead BeginsHere short long 0 0 e.from e.long_from = inr (inr (e.from, e.long_from, omega arith, omega arith, from)) in
+    let behind : IsAhead EndsHere short long 0 0 e.to e.long_to = inr (inr (e.to, e.long_to, omega arith, omega arith, to)) in
     let measured : AreMeasured holes e 0 n 0 0 ts us =
     measured_parts reach holes e 0 n 0 0 short long last after paired.short_is paired.long_is paired.stand paired.insides refl first behind in
     let spans = filled_spans holes e (fillings_spelled reach holes paired.fillings) 0 n 0 0 kids ts us (omega (arith, few)) template.own.below measured in
     whole_spans kind kids ts front e.from e.to
     ∙ ap (λ b. (b && bytes ts == e.to) || has_span 0 e.from e.to (lossless kids ts)) (begin_alike short long e.from e.long_from from)
     ∙ ap (λ b. (0 == e.long_from && b) || has_span 0 e.from e.to (lossless kids ts))
-    (end_alike reach holes 0 short long last rest e.to e.long_to paired.short_is paired.long_is paired.insides to)
+    (end_alike reach holes 0 short long last after rest e.to e.long_to paired.short_is paired.long_is paired.stand paired.insides to)
     ∙ ap (λ b. (0 == e.long_from && bytes us == e.long_to) || b) spans
     ∙ sym (whole_spans kind (filled holes 0 kids) us long_front e.long_from e.long_to)
 
@@ -166,11 +169,11 @@ whole_is reach holes short long last after text kind kids syntax paired template
 pub long_nodes : (reach : Reach) (holes : Holes) (short long : List Part) (last : List ℕ) (after : List RawToken) (name text : List ℕ) (raw : List RawToken)
     (kind : SyntaxKind) (kids : Forest) (syntax : Syntax) → ArePaired reach holes short long last after → trimmed name ≡ woven short last
     → trimmed text ≡ woven long last → IsBehind reach name raw kind kids → core holes false 12 0 kind kids ≡ true
-    → IsWholeOf reach text (filled holes 0 (node kind kids)) syntax → (front long_front from to long_from long_to : ℕ) → from < to
-    → IsPlace short long from long_from → IsPlace short long to long_to
+    → IsWholeOf reach text (filled holes 0 (node kind kids)) syntax → (front long_front from to long_from long_to : ℕ)
+    → AreSameBytes short long from to long_from long_to
     → has_node_at (whole_tree kind kids (pieces (trimmed name) raw)) front (front + from) (front + to)
     ≡ has_node_at syntax long_front (long_front + long_from) (long_front + long_to)
-long_nodes reach holes short long last after name text raw kind kids syntax paired name_is text_is behind is whole front long_front from to long_from long_to some from_is to_is =
+long_nodes reach holes short long last after name text raw kind kids syntax paired name_is text_is behind is whole front long_front from to long_from long_to same_bytes =
     let template = template_of reach holes short long last after name raw kind kids paired name_is behind is in
     let lexed = woven_lexes short last after paired.short_is paired.lexes in
     let same : raw ≡ lexed.0 = some_same raw lexed.0 (sym behind.lexes ∙ ap tokens name_is ∙ lexed.1) in
@@ -181,10 +184,10 @@ long_nodes reach holes short long last after name text raw kind kids syntax pair
       to = to;
       long_from = long_from;
       long_to = long_to;
-      some = some;
-      long_some = places_grow reach holes 0 short long from long_from to long_to paired.insides from_is to_is some;
+      some = same_bytes.some;
+      long_some = same_bytes.long_some;
     } in
     ap (λ ts. has_node_at (whole_tree kind kids ts) front (front + from) (front + to)) texts
-    ∙ laid_alike reach holes e short long last after kind kids paired template from_is to_is front long_front
+    ∙ laid_alike reach holes e short long last after kind kids paired template same_bytes.begin same_bytes.end front long_front
     ∙ ap (λ s. has_node_at s long_front (long_front + long_from) (long_front + long_to))
     (sym (whole_is reach holes short long last after text kind kids syntax paired template text_is whole))

@@ -72,7 +72,7 @@ first_of : (ts us : List plain.Token) → 0 < length ts → begins_with_trivia (
 first_of [] us some = absurd (omega (arith, some))
 first_of (t ∷ ts) us some = refl
 
-last_of : (ts us : List plain.Token) → 0 < length us → begins_with_trivia (reverse (ts ++ us)) ≡ begins_with_trivia (reverse us)
+pub last_of : (ts us : List plain.Token) → 0 < length us → begins_with_trivia (reverse (ts ++ us)) ≡ begins_with_trivia (reverse us)
 last_of ts us some =
     ap begins_with_trivia (reverse-append ts us) ∙ first_of (reverse us) (reverse ts) (omega (arith, some, length-reverse us))
 
@@ -111,7 +111,7 @@ same_first reach holes at (p ∷ ps) (q ∷ qs) last after rest is other stand (
 
 -- ** As the reading asks.
 
-reversed_pieces : (text : List ℕ) (raw : List RawToken) → reverse (pieces text raw) ≡ pieces text (reverse raw)
+pub reversed_pieces : (text : List ℕ) (raw : List RawToken) → reverse (pieces text raw) ≡ pieces text (reverse raw)
 reversed_pieces text raw =
     sym (map-reverse (λ (t : RawToken). let p : plain.Token = record { kind = t.kind; text = token_text text t } in p) raw)
 

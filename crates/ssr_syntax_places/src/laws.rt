@@ -31,7 +31,7 @@ ghost use Rattle.ssr_syntax.specs.Reading.{fragment_reading_of, trimmed, FitsFra
 ghost use Rattle.ssr_syntax_places.specs.LongTexts.{ArePaired, HasForest, IsBehind, IsReadFilled, IsWholeOf, unless_deep};
 ghost use Rattle.ssr_syntax_places.specs.PlainCore.{is_core_tree};
 ghost use Rattle.ssr_syntax_rows.specs.Lossless.{whole_tree};
-ghost use Rattle.ssr_syntax_places.specs.Spans.{has_node_at, IsPlace};
+ghost use Rattle.ssr_syntax_places.specs.Spans.{has_node_at, AreSameBytes};
 ghost use Rattle.ssr_syntax_places.specs.Placing.{begins_open, blocks, is_asked, Puts};
 ghost use Rattle.ssr_syntax_places.specs.Standing.{node, closing_marks, is_token, IsPath, token_leaf, Stands, StandsAnywhere, StandsBefore, AreArguments, between, bracketed, with_name};
 
@@ -203,8 +203,8 @@ pub fn readings()
 
 /// A long text need not be read. With a name in the place of each inside it is a short text, and if the short text's tree is
 /// core, the long text's tree is that of the filled template. No inside misnames a macro, so neither
-/// does the whole. Bytes of the long text that begin and end in no inside are a node if the same bytes of the short text are,
-/// and only then.
+/// does the whole. Bytes of the long text that don't begin or end within an inside are a node if the same bytes of the short
+/// text are, and only then.
 pub fn long_texts()
     ensures fits { (reach : Reach) (holes : Holes) (short long : List Part) (last : List ℕ) (after : List RawToken) (name text : List ℕ)
         (raw : List RawToken) (kind : SyntaxKind) (kids : Forest) → ArePaired reach holes short long last after
@@ -218,7 +218,7 @@ pub fn long_texts()
         (raw : List RawToken) (kind : SyntaxKind) (kids : Forest) (syntax : Syntax) → ArePaired reach holes short long last after
         → trimmed name ≡ woven short last → trimmed text ≡ woven long last → IsBehind reach name raw kind kids
         → IsTrue (core holes false 12 0 kind kids) → IsWholeOf reach text (filled holes 0 (node kind kids)) syntax
-        → (front long_front from to long_from long_to : ℕ) → from < to → IsPlace short long from long_from → IsPlace short long to long_to
+        → (front long_front from to long_from long_to : ℕ) → AreSameBytes short long from to long_from long_to
         → has_node_at (whole_tree kind kids (pieces (trimmed name) raw)) front (front + from) (front + to)
         ≡ has_node_at syntax long_front (long_front + long_from) (long_front + long_to) }
 {}
