@@ -40,6 +40,8 @@ mod Measured
 mod SpansFilled
 mod MeasuredParts
 mod LongNodes
+mod FilledDepth
+mod ReadAlone
 mod Behind
 mod LongTexts
 mod Loosest

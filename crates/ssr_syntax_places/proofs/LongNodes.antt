@@ -14,7 +14,7 @@ use Rattle.ssr_syntax_rows.specs.Solid.{solid_tokens, pieces}
 use Rattle.ssr_syntax_rows.proofs.Shared.{upto-past}
 use Rattle.ssr_syntax.specs.Reading.{trimmed}
 use Rattle.ssr_syntax_places.specs.Core.{Holes, core, filled}
-use Rattle.ssr_syntax_places.specs.LongTexts.{ArePaired, AreInsides, IsBehind, IsWholeOf}
+use Rattle.ssr_syntax_places.specs.LongTexts.{ArePaired, AreInsides, IsBehind, IsReadFilled, IsWholeOf}
 use Rattle.ssr_syntax_places.specs.Spans.{has_node_at, inside_at, IsSamePlace, BeginsHere, EndsHere, AreSameBytes}
 use Rattle.ssr_syntax_places.specs.Standing.{node}
 use Rattle.ssr_syntax_places.specs.Woven.{Part, woven, AreWoven, solid_parts, pieces_parts, StandFor}
@@ -191,3 +191,14 @@ long_nodes reach holes short long last after name text raw kind kids syntax pair
     ∙ laid_alike reach holes e short long last after kind kids paired template same_bytes.begin same_bytes.end front long_front
     ∙ ap (λ s. has_node_at s long_front (long_front + long_from) (long_front + long_to))
     (sym (whole_is reach holes short long last after text kind kids syntax paired template text_is whole))
+
+-- of texts that are read
+pub read_nodes : (reach : Reach) (holes : Holes) (short long : List Part) (last : List ℕ) (after : List RawToken) (name text : List ℕ) (syntax : Syntax)
+    → ArePaired reach holes short long last after → trimmed name ≡ woven short last → trimmed text ≡ woven long last
+    → (read : IsReadFilled reach holes name text syntax) → (front long_front from to long_from long_to : ℕ)
+    → AreSameBytes short long from to long_from long_to
+    → has_node_at syntax front (front + from) (front + to) ≡ has_node_at read.long long_front (long_front + long_from) (long_front + long_to)
+read_nodes reach holes short long last after name text syntax paired name_is text_is read front long_front from to long_from long_to same =
+    ap (λ s. has_node_at s front (front + from) (front + to)) read.short_is
+    ∙ long_nodes reach holes short long last after name text read.raw read.kind read.kids read.long paired name_is text_is read.template read.is_core read.whole
+    front long_front from to long_from long_to same

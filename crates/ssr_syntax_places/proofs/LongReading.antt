@@ -175,7 +175,7 @@ long_whole reach holes short long last after name text raw kind kids paired name
 pub long_read : (reach : Reach) (holes : Holes) (short long : List Part) (last : List ℕ) (after : List RawToken) (name text : List ℕ) (syntax : Syntax)
     → ArePaired reach holes short long last after → trimmed name ≡ woven short last → trimmed text ≡ woven long last → IsUtf8 (trimmed name)
     → length text < 2 ^ 32 → fragment_reading_of reach fragments.Expr name ≡ Ok syntax → is_core_tree holes false 12 syntax ≡ true
-    → IsReadFilled reach holes name text
+    → IsReadFilled reach holes name text syntax
 long_read reach holes short long last after name text syntax paired name_is text_is utf8 few reads is =
     let forest = forest_behind reach name syntax utf8 reads in
     let template : core holes false 12 0 forest.kind forest.kids ≡ true =
@@ -185,8 +185,10 @@ long_read reach holes short long last after name text syntax paired name_is text
       raw = forest.raw;
       kind = forest.kind;
       kids = forest.kids;
-      syntax = made.0;
       template = forest.behind;
+      short_is = forest.whole;
+      is_core = template;
+      long = made.0;
       whole = made.1;
       read = fragment_told reach fragments.Expr text made.0 few made.1.fits;
     }

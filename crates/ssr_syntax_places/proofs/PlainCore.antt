@@ -45,10 +45,10 @@ marks done are = tt
 marks (leaf kind us x) are = (are.1, marks x are.2)
 marks (tree kind kids x) are = let halves = solid_parts (leaves kids) (leaves x) are in (marks kids halves.0, marks x halves.1)
 
-record IsKnownTree (raw : List RawToken) (kind : SyntaxKind) (kids : Forest) : Type 0 where
-  known : KnownNode kind kids (Known kids)
-  marks_are : AreMarks kids
-  spells : spell kids ≡ solid_tokens raw
+pub record IsKnownTree (raw : List RawToken) (kind : SyntaxKind) (kids : Forest) : Type 0 where
+  pub known : KnownNode kind kids (Known kids)
+  pub marks_are : AreMarks kids
+  pub spells : spell kids ≡ solid_tokens raw
 
 -- only nodes that may have parts have them
 parts_of : (reach : Reach) (p : Parts) (z : Forest) (us : List Token) (asked : Goal) → ((goal : Goal) → keeps_parts p (grammar_of reach goal) ≡ true)
@@ -57,7 +57,7 @@ parts_of reach p z us asked all fits =
     let kept = and_parts _ _ (all asked) in
     (has_parts p (grammar_of reach) all false (grammar_of reach asked) done z us [] kept.0 (λ e. tt) tt fits).parts
 
-known_tree : (reach : Reach) (text : List ℕ) (raw : List RawToken) (kind : SyntaxKind) (kids : Forest) → IsBehind reach text raw kind kids
+pub known_tree : (reach : Reach) (text : List ℕ) (raw : List RawToken) (kind : SyntaxKind) (kids : Forest) → IsBehind reach text raw kind kids
     → IsKnownTree raw kind kids
 known_tree reach text raw kind kids behind =
     let z : Forest = node kind kids in
@@ -78,7 +78,7 @@ known_tree reach text raw kind kids behind =
 
 -- ** The tree.
 
-children_like : (text : List ℕ) (raw : List RawToken) (kind : SyntaxKind) (kids : Forest) → AreMarks kids → spell kids ≡ solid_tokens raw
+pub children_like : (text : List ℕ) (raw : List RawToken) (kind : SyntaxKind) (kids : Forest) → AreMarks kids → spell kids ≡ solid_tokens raw
     → forest_in (plain.Syntax.children (whole_tree kind kids (pieces text raw))) ≡ like kids
 children_like text raw kind kids are spells =
     let ts : List plain.Token = pieces text raw in

@@ -1,13 +1,15 @@
 -- Long texts that are read as short ones are, in which names stand for insides of the long ones.
-use Rattle.std.specs.Prelude.{◌≡◌, ℕ, ◌+◌, ◌<◌, nat_lt, true, false, ◌&&◌, if◌then◌else◌, ⊤, List, [], ◌∷◌, length, reverse, Some, Result, Ok, Err}
+use Rattle.std.specs.Prelude.{◌≡◌, ℕ, ◌+◌, ◌<◌, nat_lt, true, false, ◌&&◌, if◌then◌else◌, ⊤, List, [], ◌∷◌, length, max, reverse, Option, Some, None, Result, Ok, Err}
 use Rattle.ssr_syntax_kinds.specs.declared.kinds.SyntaxKind.{SyntaxKind}
+use Rattle.ssr_syntax_kinds.specs.declared.kinds.SyntaxKind.TheVariants as k
+use Rattle.ssr_syntax_kinds.specs.Kinds.{same_kind}
 use Rattle.ssr_syntax_kinds.specs.declared.reach.Reach.{Reach}
 use Rattle.ssr_syntax_kinds.specs.declared.fragment.Fragment.TheVariants as fragments
 use Rattle.ssr_syntax_lex.specs.Tokens.{tokens}
 use Rattle.ssr_syntax_lex.specs.declared.tokens.RawToken.{RawToken}
 use Rattle.ssr_syntax_tree.specs.Syntax.{Syntax, depth_of, most_deep}
 use Rattle.ssr_syntax_forms.specs.Fitting.{Fits}
-use Rattle.ssr_syntax_forms.specs.Trees.{Forest, done}
+use Rattle.ssr_syntax_forms.specs.Trees.{Forest, done, leaf, tree, height, spell}
 use Rattle.ssr_syntax_types.specs.declared.goals.Goal.TheVariants.{Expr}
 use Rattle.ssr_syntax_types.specs.declared.goals.ExprPlace.TheVariants.{Anywhere}
 use Rattle.ssr_syntax_rows.specs.Lossless.{whole_tree}
@@ -17,7 +19,7 @@ use Rattle.ssr_syntax.specs.Grammar.{grammar_of}
 use Rattle.ssr_syntax.specs.Reading.{fragment_reading_of, trimmed, FitsFragmentOf}
 use Rattle.ssr_syntax.specs.declared.syntax_error.SyntaxError.{SyntaxError}
 use Rattle.ssr_syntax.specs.declared.syntax_error.SyntaxError.TheVariants as errors
-use Rattle.ssr_syntax_places.specs.Core.{Hole, Holes, AreFillings, filled}
+use Rattle.ssr_syntax_places.specs.Core.{Hole, Holes, IsFilling, AreFillings, core, filled}
 use Rattle.ssr_syntax_places.specs.Standing.{node}
 use Rattle.ssr_syntax_places.specs.Woven.{Part, AreWoven, StandFor}
 
@@ -48,6 +50,16 @@ pub record IsInside (reach : Reach) (hole : Hole) (text : List ℕ) (raw : List 
   pub fits : Fits (grammar_of reach) (grammar_of reach (Expr Anywhere)) done hole.tree (solid_tokens raw) []
   pub some : 0 < length (solid_tokens raw)
   pub named : misnames_macros (whole_tree kind kids (pieces text raw)) ≡ false
+
+-- A text that is read alone as an expression is what a name may stand for.
+pub record IsReadAlone (reach : Reach) (text : List ℕ) (syntax : Syntax) : Type 0 where
+  pub hole : Hole
+  pub raw : List RawToken
+  pub lexes : tokens text ≡ Some raw
+  pub tokens_are : hole.tokens ≡ solid_tokens raw
+  pub filling : IsFilling reach hole
+  pub inside : IsInside reach hole text raw
+  pub whole : syntax ≡ whole_tree inside.kind inside.kids (pieces text raw)
 
 -- The same parts with other insides. In the short text each is a name alone, and in the long one what the name stands for.
 -- `at` is the number of the first token.
@@ -88,13 +100,29 @@ pub record IsWholeOf (reach : Reach) (text : List ℕ) (forest : Forest) (syntax
   pub whole : syntax ≡ whole_tree kind kids (pieces (trimmed text) raw)
   pub fits : FitsFragmentOf reach fragments.Expr text syntax
 
--- The long text is read to the whole tree of the filled template, if that isn't too deep. The template is the forest behind the
--- short text's tree.
-pub record IsReadFilled (reach : Reach) (holes : Holes) (name text : List ℕ) : Type 0 where
+-- The short text is read to a core tree, and the long one to the whole tree of the filled template, if that isn't too deep. The
+-- template is the forest behind the short text's tree.
+pub record IsReadFilled (reach : Reach) (holes : Holes) (name text : List ℕ) (short : Syntax) : Type 0 where
   pub raw : List RawToken
   pub kind : SyntaxKind
   pub kids : Forest
-  pub syntax : Syntax
   pub template : IsBehind reach name raw kind kids
-  pub whole : IsWholeOf reach text (filled holes 0 (node kind kids)) syntax
-  pub read : fragment_reading_of reach fragments.Expr text ≡ unless_deep syntax
+  pub short_is : short ≡ whole_tree kind kids (pieces (trimmed name) raw)
+  pub is_core : core holes false 12 0 kind kids ≡ true
+  pub long : Syntax
+  pub whole : IsWholeOf reach text (filled holes 0 (node kind kids)) long
+  pub read : fragment_reading_of reach fragments.Expr text ≡ unless_deep long
+
+-- ** How deep it is.
+
+abbrev pub path_height : Option Hole → Forest → ℕ
+path_height None kids = 1 + height kids
+path_height (Some hole) kids = height hole.tree
+
+-- how many nodes stand above one another in the filled template, of which the first token has the number `at`
+abbrev pub filled_height : Holes → ℕ → Forest → ℕ
+filled_height holes at done = 0
+filled_height holes at (leaf kind us x) = filled_height holes (at + length us) x
+filled_height holes at (tree kind kids x) =
+    max (if same_kind kind k.PATH_EXPR then path_height (holes at) kids else 1 + filled_height holes at kids)
+    (filled_height holes (at + length (spell kids)) x)

@@ -25,11 +25,11 @@ ghost use Rattle.ssr_syntax_lex.specs.Seams.{is_seam, has_token_at};
 ghost use Rattle.ssr_syntax_lex.specs.Tokens.{tokens};
 ghost use Rattle.ssr_syntax_places.specs.Insides.{with_inside, IsLexed, HasParts, AreParts};
 ghost use Rattle.ssr_syntax_kinds.specs.declared.fragment.Fragment.TheVariants as fragments;
-ghost use Rattle.ssr_syntax_tree.specs.Syntax.{Syntax};
+ghost use Rattle.ssr_syntax_tree.specs.Syntax.{Syntax, depth_of};
 ghost use Rattle.ssr_syntax_kinds.specs.declared.fragment.Fragment.{Fragment};
 ghost use Rattle.ssr_syntax.specs.Reading.{fragment_reading_of, trimmed, FitsFragmentOf};
-ghost use Rattle.ssr_syntax_places.specs.LongTexts.{ArePaired, HasForest, IsBehind, IsReadFilled, IsWholeOf, unless_deep};
-ghost use Rattle.ssr_syntax_places.specs.PlainCore.{is_core_tree};
+ghost use Rattle.ssr_syntax_places.specs.LongTexts.{ArePaired, HasForest, IsBehind, IsReadAlone, IsReadFilled, IsWholeOf, filled_height, unless_deep};
+ghost use Rattle.ssr_syntax_places.specs.PlainCore.{forest_in, is_core_tree};
 ghost use Rattle.ssr_syntax_rows.specs.Lossless.{whole_tree};
 ghost use Rattle.ssr_syntax_places.specs.Spans.{has_node_at, AreSameBytes};
 ghost use Rattle.ssr_syntax_places.specs.Placing.{begins_open, blocks, is_asked, Puts};
@@ -190,7 +190,8 @@ pub fn many_insides()
 {}
 
 /// What is read of a text has a forest behind it, which fits the text's tokens. What fits is read, unless it is too deep.
-/// The forest is core if the kinds of the tree's tokens say so: a walk over the tree decides.
+/// The forest is core if the kinds of the tree's tokens say so: a walk over the tree decides. A text that is read alone is what
+/// a name may stand for.
 pub fn readings()
     ensures behind { (reach : Reach) (text : List ℕ) (syntax : Syntax) → IsUtf8 (trimmed text)
         → fragment_reading_of reach fragments.Expr text ≡ Ok syntax → HasForest reach text syntax }
@@ -199,12 +200,14 @@ pub fn readings()
     ensures core { (reach : Reach) (holes : Holes) (callable : Bool) (n : ℕ) (text : List ℕ) (raw : List RawToken) (kind : SyntaxKind) (kids : Forest)
         → IsBehind reach text raw kind kids → IsTrue (is_core_tree holes callable n (whole_tree kind kids (pieces (trimmed text) raw)))
         → IsTrue (core holes callable n 0 kind kids) }
+    ensures alone { (reach : Reach) (text : List ℕ) (syntax : Syntax) → IsUtf8 text → trimmed text ≡ text → 0 < length text
+        → FitsFragmentOf reach fragments.Expr text syntax → IsReadAlone reach text syntax }
 {}
 
 /// A long text need not be read. With a name in the place of each inside it is a short text, and if the short text's tree is
-/// core, the long text's tree is that of the filled template. No inside misnames a macro, so neither
-/// does the whole. Bytes of the long text that don't begin or end within an inside are a node if the same bytes of the short
-/// text are, and only then.
+/// core, the long text's tree is that of the filled template. No inside misnames a macro, so neither does the whole. How deep
+/// the tree is can be computed from the short one. Bytes of the long text that don't begin or end within an inside are a node if
+/// the same bytes of the short text are, and only then.
 pub fn long_texts()
     ensures fits { (reach : Reach) (holes : Holes) (short long : List Part) (last : List ℕ) (after : List RawToken) (name text : List ℕ)
         (raw : List RawToken) (kind : SyntaxKind) (kids : Forest) → ArePaired reach holes short long last after
@@ -213,14 +216,14 @@ pub fn long_texts()
     ensures read { (reach : Reach) (holes : Holes) (short long : List Part) (last : List ℕ) (after : List RawToken) (name text : List ℕ)
         (syntax : Syntax) → ArePaired reach holes short long last after → trimmed name ≡ woven short last → trimmed text ≡ woven long last
         → IsUtf8 (trimmed name) → length text < 2 ^ 32 → fragment_reading_of reach fragments.Expr name ≡ Ok syntax
-        → IsTrue (is_core_tree holes false 12 syntax) → IsReadFilled reach holes name text }
+        → IsTrue (is_core_tree holes false 12 syntax) → IsReadFilled reach holes name text syntax }
+    ensures depth { (reach : Reach) (holes : Holes) (name text : List ℕ) (short : Syntax) (read : IsReadFilled reach holes name text short)
+        → 1 + depth_of read.long ≡ filled_height holes 0 (node short.kind (forest_in short.children)) }
     ensures nodes { (reach : Reach) (holes : Holes) (short long : List Part) (last : List ℕ) (after : List RawToken) (name text : List ℕ)
-        (raw : List RawToken) (kind : SyntaxKind) (kids : Forest) (syntax : Syntax) → ArePaired reach holes short long last after
-        → trimmed name ≡ woven short last → trimmed text ≡ woven long last → IsBehind reach name raw kind kids
-        → IsTrue (core holes false 12 0 kind kids) → IsWholeOf reach text (filled holes 0 (node kind kids)) syntax
-        → (front long_front from to long_from long_to : ℕ) → AreSameBytes short long from to long_from long_to
-        → has_node_at (whole_tree kind kids (pieces (trimmed name) raw)) front (front + from) (front + to)
-        ≡ has_node_at syntax long_front (long_front + long_from) (long_front + long_to) }
+        (syntax : Syntax) → ArePaired reach holes short long last after → trimmed name ≡ woven short last → trimmed text ≡ woven long last
+        → (read : IsReadFilled reach holes name text syntax) (front long_front from to long_from long_to : ℕ)
+        → AreSameBytes short long from to long_from long_to
+        → has_node_at syntax front (front + from) (front + to) ≡ has_node_at read.long long_front (long_front + long_from) (long_front + long_to) }
 {}
 
 /// Statements in braces are replaced wherever they stand in a tree that fits: with others in their places that fit, too, the
