@@ -1,7 +1,7 @@
 -- The pieces of a short text and those of a long one, token by token of the template that both are read by.
-use Rattle.std.proofs.Common.{◌≡◌, ℕ, zero, suc, ◌+◌, ◌<◌, ◌≤◌, Bool, true, false, if◌then◌else◌, List, [], ◌∷◌, ◌++◌, length, Some, None, refl, sym, ap, subst, ◌∙◌, arith, append_assoc}
+use Rattle.std.proofs.Common.{◌≡◌, ℕ, zero, suc, ◌+◌, true, false, if◌then◌else◌, List, [], ◌∷◌, ◌++◌, length, Some, None, refl, sym, ap, subst, ◌∙◌, arith, append_assoc}
 use Rattle.std.specs.Prelude.{Option, ⊤}
-use Rattle.std.proofs.lemmas.List.{append-nil, length-append}
+use Rattle.std.proofs.lemmas.List.{length-append}
 use Rattle.std.proofs.lemmas.Bool.{and_parts}
 use Rattle.ssr_syntax_kinds.specs.Kinds.{is_trivia}
 use Rattle.ssr_syntax_kinds.specs.declared.kinds.SyntaxKind.{SyntaxKind}
@@ -10,13 +10,13 @@ use Rattle.ssr_syntax_lex.specs.Tokens.{token_text}
 use Rattle.ssr_syntax_tree.specs.Syntax as plain
 use Rattle.ssr_syntax_forms.specs.declared.tokens.Token.{Token}
 use Rattle.ssr_syntax_forms.specs.Trees.{Forest, spell}
-use Rattle.ssr_syntax_rows.specs.Lossless.{trivia, behind_trivia, gap, behind_gap, past, lossless}
+use Rattle.ssr_syntax_rows.specs.Lossless.{behind_gap, past, lossless}
 use Rattle.ssr_syntax_rows.specs.Solid.{solid_token, solid_tokens, pieces}
 use Rattle.ssr_syntax_rows.proofs.Shared.{past-zero}
 use Rattle.ssr_syntax_places.specs.Core.{Hole, Holes, is_no_hole, are_spelled, token_filled, tokens_filled}
 use Rattle.ssr_syntax_places.specs.Standing.{node}
 use Rattle.ssr_syntax_places.proofs.Misnamed.{AllTrivia, IsNamed}
-use Rattle.ssr_syntax_places.proofs.Pieces.{solid_count, trivia_lead, behind_lead, past_lead, past_more, IsRun, one_run}
+use Rattle.ssr_syntax_places.proofs.Pieces.{behind_lead, past_lead, past_more, IsRun, one_run}
 
 -- ** What stands in the place of a token.
 

@@ -1,7 +1,6 @@
 -- The pieces of texts of parts, of which the one has names for the insides of the other, are aligned.
-use Rattle.std.proofs.Common.{◌≡◌, ℕ, zero, suc, ◌+◌, ◌<◌, Bool, true, false, if◌then◌else◌, List, [], ◌∷◌, ◌++◌, length, Some, refl, sym, ap, subst, ◌∙◌, arith, append_assoc}
+use Rattle.std.proofs.Common.{◌≡◌, ℕ, suc, ◌+◌, true, false, if◌then◌else◌, List, [], ◌∷◌, ◌++◌, length, Some, refl, sym, ap, subst, ◌∙◌, arith, append_assoc}
 use Rattle.std.proofs.lemmas.List.{append-nil, length-append}
-use Rattle.std.proofs.lemmas.Bool.{not-true}
 use Rattle.ssr_syntax_kinds.specs.Kinds.{is_trivia}
 use Rattle.ssr_syntax_kinds.specs.declared.reach.Reach.{Reach}
 use Rattle.ssr_syntax_lex.specs.Tokens.{tokens, token_text}
@@ -9,12 +8,11 @@ use Rattle.ssr_syntax_lex.specs.declared.tokens.RawToken.{RawToken}
 use Rattle.ssr_syntax_tree.specs.Syntax as plain
 use Rattle.ssr_syntax_forms.specs.declared.tokens.Token.{Token}
 use Rattle.ssr_syntax_rows.specs.Solid.{solid_token, solid_tokens, pieces}
-use Rattle.ssr_syntax_places.specs.Core.{Hole, Holes, are_spelled, is_single}
+use Rattle.ssr_syntax_places.specs.Core.{Hole, Holes, is_single}
 use Rattle.ssr_syntax_places.specs.Insides.{IsLexed}
 use Rattle.ssr_syntax_places.specs.LongTexts.{IsInside, AreInsides}
 use Rattle.ssr_syntax_places.specs.Woven.{Part, AreWoven, solid_parts, pieces_parts, StandFor}
-use Rattle.ssr_syntax_places.proofs.Misnamed.{AllTrivia}
-use Rattle.ssr_syntax_places.proofs.Aligned.{IsFor, Step, AreAligned, aligned_lead, aligned_own}
+use Rattle.ssr_syntax_places.proofs.Aligned.{IsFor, AreAligned, aligned_lead, aligned_own}
 use Rattle.ssr_syntax_places.proofs.Insides.{some_same}
 use Rattle.ssr_syntax_places.proofs.PutInside.{IsPutOf, inside_put}
 

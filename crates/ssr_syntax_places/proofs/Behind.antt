@@ -1,5 +1,5 @@
 -- The forest behind the tree that a text is read to.
-use Rattle.std.proofs.Common.{◌≡◌, ℕ, List, Some, refl}
+use Rattle.std.proofs.Common.{◌≡◌, ℕ, List}
 use Rattle.std.specs.Prelude.{Ok}
 use Rattle.std.specs.Str.{IsUtf8}
 use Rattle.ssr_syntax_kinds.specs.declared.fragment.Fragment.TheVariants as fragments

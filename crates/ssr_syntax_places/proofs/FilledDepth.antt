@@ -1,5 +1,5 @@
 -- How deep the tree of a long text is.
-use Rattle.std.proofs.Common.{◌≡◌, ℕ, ◌+◌, Bool, true, false, if◌then◌else◌, List, [], ◌∷◌, ◌++◌, length, Some, None, refl, sym, ap, subst, ◌∙◌, arith}
+use Rattle.std.proofs.Common.{◌≡◌, ℕ, ◌+◌, Bool, true, false, if◌then◌else◌, List, length, Some, None, refl, sym, ap, ◌∙◌, arith}
 use Rattle.std.specs.Prelude.{Option, max}
 use Rattle.ssr_syntax_kinds.specs.Kinds.{same_kind}
 use Rattle.ssr_syntax_kinds.specs.declared.kinds.SyntaxKind.{SyntaxKind}
@@ -7,7 +7,6 @@ use Rattle.ssr_syntax_kinds.specs.declared.kinds.SyntaxKind.TheVariants as k
 use Rattle.ssr_syntax_kinds.specs.declared.reach.Reach.{Reach}
 use Rattle.ssr_syntax_tree.specs.Syntax.{Syntax, depth_of}
 use Rattle.ssr_syntax_forms.specs.Trees.{Forest, done, leaf, tree, join, height, spell}
-use Rattle.ssr_syntax_rows.specs.Lossless.{whole_tree}
 use Rattle.ssr_syntax_rows.specs.Solid.{pieces}
 use Rattle.ssr_syntax_rows.proofs.Shared.{whole-depth}
 use Rattle.ssr_syntax.specs.Reading.{trimmed}
@@ -16,7 +15,7 @@ use Rattle.ssr_syntax_places.specs.LongTexts.{IsReadFilled, path_height, filled_
 use Rattle.ssr_syntax_places.specs.PlainCore.{tokens_like, forest_in}
 use Rattle.ssr_syntax_places.specs.Standing.{node}
 use Rattle.ssr_syntax_places.proofs.LikeForests.{like, Known, leaf_length, spell_length}
-use Rattle.ssr_syntax_places.proofs.PlainCore.{IsKnownTree, known_tree, children_like}
+use Rattle.ssr_syntax_places.proofs.PlainCore.{known_tree, children_like}
 
 height_join : (x y : Forest) → height (join x y) ≡ max (height x) (height y)
 height_join done y = omega arith

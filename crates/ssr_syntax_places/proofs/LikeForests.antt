@@ -1,28 +1,26 @@
 -- The forest behind a tree, and that which the kinds of the tree's tokens tell.
-use Rattle.std.proofs.Common.{◌≡◌, ℕ, zero, suc, ◌+◌, ◌-◌, ◌<◌, nat_eq, Bool, true, false, not, ◌&&◌, ◌||◌, if◌then◌else◌, List, [], ◌∷◌, ◌++◌, length, Some, None, ◌⊎◌, inl, inr, refl, sym, ap, subst, ◌∙◌, arith}
-use Rattle.std.specs.Prelude.{Option, ⊤, replicate}
+use Rattle.std.proofs.Common.{◌≡◌, ℕ, zero, suc, ◌+◌, ◌-◌, ◌<◌, nat_eq, Bool, true, false, not, ◌&&◌, if◌then◌else◌, List, [], ◌∷◌, ◌++◌, length, ◌⊎◌, inl, inr, refl, sym, ap, subst, ◌∙◌, arith}
+use Rattle.std.specs.Prelude.{⊤, replicate}
 use Rattle.std.proofs.lemmas.List.{length-append, length-replicate}
 use Rattle.std.proofs.lemmas.Bool.{and_from, and_parts, eqb-true}
 use Rattle.std.proofs.Math.Bool.{or-false}
 use Rattle.ssr_syntax_kinds.specs.Kinds.{same_kind, is_trivia}
 use Rattle.ssr_syntax_kinds.specs.declared.kinds.SyntaxKind.{SyntaxKind}
-use Rattle.ssr_syntax_kinds.specs.declared.kinds.SyntaxKind.TheVariants as k
 use Rattle.ssr_syntax_kinds.proofs.Shared.{same_kind-equal, equal-same_kind}
 use Rattle.ssr_syntax_tree.specs.Syntax as plain
 use Rattle.ssr_syntax_forms.specs.declared.tokens.Token.{Token}
-use Rattle.ssr_syntax_forms.specs.Forms.{next, more, taken_as}
+use Rattle.ssr_syntax_forms.specs.Forms.{more, taken_as}
 use Rattle.ssr_syntax_forms.specs.Kinds.{mem}
 use Rattle.ssr_syntax_forms.specs.Trees.{Forest, done, leaf, tree, spell}
 use Rattle.ssr_syntax_forms.proofs.Shared.{every, every_mem}
 use Rattle.ssr_syntax_types.specs.Types.{ampersands}
-use Rattle.ssr_syntax_rows.specs.Leaves.{leaves}
-use Rattle.ssr_syntax_rows.specs.Lossless.{trivia, gap, behind_gap, upto, past, before, behind, lossless}
-use Rattle.ssr_syntax_rows.proofs.Shared.{AreSolid, AreTaken, IsTaken}
+use Rattle.ssr_syntax_rows.specs.Lossless.{gap, behind_gap, upto, past, before, behind, lossless}
+use Rattle.ssr_syntax_rows.proofs.Shared.{AreTaken, IsTaken}
 use Rattle.ssr_syntax_places.specs.Core.{Holes, is_no_hole, are_spelled, is_leaf, is_ampersand, is_single}
 use Rattle.ssr_syntax_places.specs.PlainCore.{of_two, of_three, size_of_kind, tokens_like, forest_in}
 use Rattle.ssr_syntax_places.specs.Standing.{is_token}
 use Rattle.ssr_syntax_places.proofs.Misnamed.{AllTrivia}
-use Rattle.ssr_syntax_places.proofs.PartLeaves.{Parts, any_part, other_part, IsWholeLeaf, IsPartLeaf, HasLeaves, HasParts}
+use Rattle.ssr_syntax_places.proofs.PartLeaves.{any_part, other_part, IsWholeLeaf, IsPartLeaf, HasLeaves, HasParts}
 use Rattle.ssr_syntax_places.proofs.Pieces.{all_trivia}
 use Rattle.ssr_syntax_places.proofs.TokenSizes.{IsSized, AreSized}
 

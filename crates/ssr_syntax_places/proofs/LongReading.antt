@@ -1,6 +1,6 @@
 -- What fits a long text: the filled template, if the short text with names in the place of its insides is the template.
-use Rattle.std.proofs.Common.{◌≡◌, ℕ, zero, suc, ◌+◌, ◌<◌, Bool, true, false, ◌&&◌, List, [], ◌∷◌, ◌++◌, length, Some, inl, inr, refl, sym, ap, subst, ◌∙◌, arith}
-use Rattle.std.proofs.lemmas.List.{append-nil, length-append}
+use Rattle.std.proofs.Common.{◌≡◌, ℕ, ◌<◌, true, false, ◌&&◌, List, [], ◌∷◌, length, Some, inl, inr, refl, sym, ap, subst, ◌∙◌, arith}
+use Rattle.std.proofs.lemmas.List.{append-nil}
 use Rattle.std.proofs.lemmas.Bool.{and_parts}
 use Rattle.std.specs.Prelude.{◌^◌, reverse, Ok}
 use Rattle.std.specs.Str.{IsUtf8}
@@ -18,12 +18,12 @@ use Rattle.ssr_syntax_forms.specs.declared.tokens.Token.{Token}
 use Rattle.ssr_syntax_forms.specs.Trees.{Forest, done, join, spell}
 use Rattle.ssr_syntax_types.specs.declared.goals.Goal.TheVariants.{Expr}
 use Rattle.ssr_syntax_types.specs.declared.goals.ExprPlace.TheVariants.{Anywhere}
-use Rattle.ssr_syntax_rows.specs.Lossless.{past, lossless, whole_tree}
+use Rattle.ssr_syntax_rows.specs.Lossless.{past, whole_tree}
 use Rattle.ssr_syntax_rows.specs.MacroRules.{misnames_macros}
 use Rattle.ssr_syntax_rows.specs.Solid.{begins_solid, solid_tokens, pieces}
 use Rattle.ssr_syntax.specs.Grammar.{grammar_of}
 use Rattle.ssr_syntax.specs.Reading.{fragment_reading_of, trimmed}
-use Rattle.ssr_syntax_places.specs.Core.{Hole, Holes, AreFillings, is_no_hole, are_spelled, is_single, core, filled, node_filled}
+use Rattle.ssr_syntax_places.specs.Core.{Hole, Holes, AreFillings, is_no_hole, are_spelled, is_single, core, filled}
 use Rattle.ssr_syntax_places.specs.LongTexts.{ArePaired, IsBehind, IsReadFilled, IsWholeOf}
 use Rattle.ssr_syntax_places.specs.PlainCore.{is_core_tree}
 use Rattle.ssr_syntax_places.specs.Standing.{node}
@@ -38,7 +38,7 @@ use Rattle.ssr_syntax_places.proofs.Misnamed.{named_whole}
 use Rattle.ssr_syntax_places.proofs.Outside.{front_some, same_outside}
 use Rattle.ssr_syntax_places.proofs.PlainCore.{tree_core}
 use Rattle.ssr_syntax_places.proofs.PutInside.{fits_spells}
-use Rattle.ssr_syntax_places.proofs.Templates.{IsName, IsOwn, IsTemplate, AreSpelled, core_template}
+use Rattle.ssr_syntax_places.proofs.Templates.{IsOwn, IsTemplate, AreSpelled, core_template}
 use Rattle.ssr_syntax_places.proofs.Unnamed.{filled_free, whole_named}
 use Rattle.ssr_syntax_places.proofs.Woven.{woven_lexes}
 

@@ -1,15 +1,15 @@
 -- Aligned pieces with their bytes: where a place of the short text is the same as one of the long text.
-use Rattle.std.proofs.Common.{◌≡◌, ℕ, zero, suc, ◌+◌, ◌-◌, ◌<◌, ◌≤◌, ◌==◌, Bool, true, false, ◌&&◌, ◌||◌, List, [], ◌∷◌, ◌++◌, length, Some, None, ◌⊎◌, inl, inr, refl, sym, ap, subst, ◌∙◌, arith, append_assoc}
+use Rattle.std.proofs.Common.{◌≡◌, ℕ, zero, suc, ◌+◌, ◌<◌, ◌≤◌, ◌==◌, false, List, [], ◌∷◌, ◌++◌, length, Some, None, ◌⊎◌, refl, sym, ap, subst, ◌∙◌, arith}
 use Rattle.std.specs.Prelude.{Option, ⊤}
 use Rattle.std.proofs.lemmas.List.{append-nil}
 use Rattle.ssr_syntax_kinds.specs.Kinds.{is_trivia}
 use Rattle.ssr_syntax_tree.specs.Syntax as plain
-use Rattle.ssr_syntax_rows.specs.Lossless.{trivia, behind_trivia, gap, behind_gap, upto, past}
+use Rattle.ssr_syntax_rows.specs.Lossless.{gap, behind_gap, upto, past}
 use Rattle.ssr_syntax_rows.proofs.Shared.{past-zero, upto-zero, upto-past}
 use Rattle.ssr_syntax_places.specs.Core.{Hole, Holes}
 use Rattle.ssr_syntax_places.proofs.Misnamed.{AllTrivia}
-use Rattle.ssr_syntax_places.proofs.Pieces.{trivia_lead, behind_lead, past_lead, past_more, upto_front, IsRun, one_run}
-use Rattle.ssr_syntax_places.proofs.Aligned.{IsFor, Step, size_of, filled_size, put_run, run_behind, run_past}
+use Rattle.ssr_syntax_places.proofs.Pieces.{trivia_lead, IsRun, one_run}
+use Rattle.ssr_syntax_places.proofs.Aligned.{Step, size_of, filled_size, put_run, run_behind, run_past}
 use Rattle.ssr_syntax_places.proofs.Spans.{bytes, bytes_append, bytes_first}
 
 -- the first and the last byte that are asked for, in the short text and in the long one

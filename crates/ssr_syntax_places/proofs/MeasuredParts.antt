@@ -1,6 +1,6 @@
 -- The pieces of texts of parts are measured by the places that are the same in both texts.
-use Rattle.std.proofs.Common.{◌≡◌, ℕ, zero, suc, ◌+◌, ◌<◌, ◌≤◌, ◌==◌, Bool, true, false, ◌&&◌, if◌then◌else◌, List, [], ◌∷◌, ◌++◌, length, Some, None, ◌⊎◌, inl, inr, refl, sym, ap, subst, ◌∙◌, arith, append_assoc}
-use Rattle.std.specs.Prelude.{Option, ⊤, reverse}
+use Rattle.std.proofs.Common.{◌≡◌, ℕ, zero, suc, ◌+◌, ◌<◌, ◌≤◌, ◌==◌, true, false, if◌then◌else◌, List, [], ◌∷◌, ◌++◌, length, Some, None, ◌⊎◌, inl, inr, refl, sym, ap, subst, ◌∙◌, arith, append_assoc}
+use Rattle.std.specs.Prelude.{Option, reverse}
 use Rattle.std.specs.Str.{IsUtf8}
 use Rattle.std.proofs.lemmas.Bool.{and_parts, not-true}
 use Rattle.std.proofs.lemmas.List.{append-nil, length-append}
@@ -14,14 +14,14 @@ use Rattle.ssr_syntax_tree.specs.Syntax.{begins_with_trivia}
 use Rattle.ssr_syntax_forms.specs.declared.tokens.Token.{Token}
 use Rattle.ssr_syntax_rows.specs.Solid.{begins_solid, solid_token, solid_tokens, pieces}
 use Rattle.ssr_syntax_rows.proofs.Shared.{spelled-pieces, tiles_count}
-use Rattle.ssr_syntax_places.specs.Core.{Hole, Holes, is_no_hole, are_spelled, is_single}
+use Rattle.ssr_syntax_places.specs.Core.{Hole, Holes, is_no_hole, are_spelled}
 use Rattle.ssr_syntax_places.specs.LongTexts.{IsInside, AreInsides}
 use Rattle.ssr_syntax_places.specs.Spans.{inside_at, IsSamePlace, BeginsHere, EndsHere}
 use Rattle.ssr_syntax_places.specs.Woven.{Part, AreWoven, solid_parts, pieces_parts, StandFor}
-use Rattle.ssr_syntax_places.proofs.Aligned.{IsFor, Step, is_for_itself, append_trivia}
+use Rattle.ssr_syntax_places.proofs.Aligned.{IsFor, is_for_itself, append_trivia}
 use Rattle.ssr_syntax_places.proofs.AlignedParts.{IsAlone, alone, same_front}
 use Rattle.ssr_syntax_places.proofs.Insides.{some_same}
-use Rattle.ssr_syntax_places.proofs.Measured.{Ends, IsOutside, IsApart, IsApartFor, Measure, AreMeasured}
+use Rattle.ssr_syntax_places.proofs.Measured.{Ends, IsOutside, IsApart, IsApartFor, AreMeasured}
 use Rattle.ssr_syntax_places.proofs.Misnamed.{AllTrivia}
 use Rattle.ssr_syntax_places.proofs.Outside.{last_of, reversed_pieces}
 use Rattle.ssr_syntax_places.proofs.PutInside.{IsPutOf, inside_put}

@@ -1,8 +1,7 @@
 -- Which nodes have a token as a child that is only the first part of a joined one. All other nodes take their tokens whole.
-use Rattle.std.proofs.Common.{◌≡◌, ℕ, ◌-◌, nat_eq, Bool, true, false, not, ◌&&◌, ◌||◌, List, [], ◌∷◌, ◌++◌, length, ◌⊎◌, inl, inr, refl, sym, ap, subst, ◌∙◌, arith}
+use Rattle.std.proofs.Common.{◌≡◌, ◌-◌, nat_eq, Bool, true, false, not, ◌&&◌, ◌||◌, List, [], ◌∷◌, ◌++◌, length, ◌⊎◌, inl, inr, refl, sym, ap, subst, ◌∙◌, arith}
 use Rattle.std.specs.Prelude.{⊤}
-use Rattle.std.proofs.lemmas.Bool.{and_from, and_parts, eq-eqb, not-true, or_from, or_parts}
-use Rattle.ssr_syntax_kinds.specs.Kinds.{same_kind}
+use Rattle.std.proofs.lemmas.Bool.{and_from, and_parts, eq-eqb, not-true, or_parts}
 use Rattle.ssr_syntax_kinds.specs.declared.kinds.SyntaxKind.{SyntaxKind}
 use Rattle.ssr_syntax_kinds.specs.declared.kinds.SyntaxKind.TheVariants as k
 use Rattle.ssr_syntax_kinds.proofs.Shared.{equal-same_kind}

@@ -1,9 +1,7 @@
 -- A tree that is core by the kinds of its tokens has a core forest behind it.
-use Rattle.std.proofs.Common.{◌≡◌, ℕ, ◌+◌, Bool, true, false, ◌&&◌, List, [], ◌∷◌, ◌++◌, length, refl, sym, ap, subst, ◌∙◌, arith}
-use Rattle.std.specs.Prelude.{⊤}
+use Rattle.std.proofs.Common.{◌≡◌, ℕ, Bool, true, false, List, [], ◌∷◌, ◌++◌, length, sym, ap, subst, ◌∙◌}
 use Rattle.std.proofs.lemmas.List.{append-nil}
 use Rattle.std.proofs.lemmas.Bool.{and_parts}
-use Rattle.ssr_syntax_kinds.specs.Kinds.{is_trivia}
 use Rattle.ssr_syntax_kinds.specs.declared.kinds.SyntaxKind.{SyntaxKind}
 use Rattle.ssr_syntax_kinds.specs.declared.reach.Reach.{Reach}
 use Rattle.ssr_syntax_lex.specs.declared.tokens.RawToken.{RawToken}
@@ -28,7 +26,7 @@ use Rattle.ssr_syntax_places.specs.Standing.{node}
 use Rattle.ssr_syntax_places.proofs.Delimited.{all_keep_parts}
 use Rattle.ssr_syntax_places.proofs.LikeCore.{core_like}
 use Rattle.ssr_syntax_places.proofs.LikeForests.{like, AreMarks, Known, KnownNode, all_known, forest_behind_trivia, forest_like}
-use Rattle.ssr_syntax_places.proofs.PartLeaves.{Parts, any_part, other_part, keeps_parts, suits, may_have, HasParts, has_parts}
+use Rattle.ssr_syntax_places.proofs.PartLeaves.{Parts, any_part, other_part, keeps_parts, HasParts, has_parts}
 use Rattle.ssr_syntax_places.proofs.Pieces.{solid_count, past_all}
 use Rattle.ssr_syntax_places.proofs.PutInside.{fits_spells, count_pieces}
 use Rattle.ssr_syntax_places.proofs.RawKinds.{all_raw_single}

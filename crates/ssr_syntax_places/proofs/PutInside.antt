@@ -1,5 +1,5 @@
 -- An inside that is read alone is put in the place of a name: its pieces, from the first solid one to the last.
-use Rattle.std.proofs.Common.{◌≡◌, ℕ, zero, suc, ◌+◌, ◌<◌, ◌≤◌, Bool, true, false, not, ◌&&◌, ◌||◌, if◌then◌else◌, List, [], ◌∷◌, ◌++◌, length, refl, sym, ap, subst, ◌∙◌, arith}
+use Rattle.std.proofs.Common.{◌≡◌, ℕ, zero, suc, ◌<◌, Bool, true, false, not, ◌&&◌, ◌||◌, if◌then◌else◌, List, [], ◌∷◌, ◌++◌, length, refl, sym, ap, subst, ◌∙◌, arith}
 use Rattle.std.specs.Prelude.{bytes_eq, codes}
 use Rattle.std.proofs.lemmas.List.{append-nil}
 use Rattle.std.proofs.lemmas.Bool.{or_from, or_parts}
@@ -16,15 +16,14 @@ use Rattle.ssr_syntax_forms.specs.Trees as solid
 use Rattle.ssr_syntax_forms.specs.Trees.{Forest, done, spell}
 use Rattle.ssr_syntax_forms.proofs.Shared.{at_some_level, goals_spell}
 use Rattle.ssr_syntax_types.specs.declared.goals.Goal.{Goal}
-use Rattle.ssr_syntax_rows.specs.Lossless.{trivia, behind_trivia, gap, behind_gap, upto, past, before, behind, lossless, whole_tree}
+use Rattle.ssr_syntax_rows.specs.Lossless.{behind_trivia, gap, behind_gap, upto, past, before, behind, lossless, whole_tree}
 use Rattle.ssr_syntax_rows.specs.Solid.{solid_token, solid_tokens, pieces}
 use Rattle.ssr_syntax_rows.proofs.Shared.{upto-zero, past-zero}
 use Rattle.ssr_syntax.specs.Grammar.{grammar_of}
 use Rattle.ssr_syntax_places.specs.Core.{Hole}
 use Rattle.ssr_syntax_places.specs.LongTexts.{IsInside}
-use Rattle.ssr_syntax_places.specs.Standing.{node}
 use Rattle.ssr_syntax_places.proofs.Misnamed.{AllTrivia, has_other, has_misnamed, IsNamed, named_parts, misnamed_before, misnamed_behind, others_before, others_front}
-use Rattle.ssr_syntax_places.proofs.Pieces.{solid_count, all_trivia, trivia_lead, behind_lead, past_lead, lossless_front, IsRun, Split, split}
+use Rattle.ssr_syntax_places.proofs.Pieces.{solid_count, all_trivia, behind_lead, past_lead, lossless_front, Split, split}
 use Rattle.ssr_syntax_places.proofs.Aligned.{IsPut}
 
 -- what fits has the tokens that it takes

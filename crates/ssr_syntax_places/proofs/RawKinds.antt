@@ -1,5 +1,5 @@
 -- No token of a text has a kind that is joined from several.
-use Rattle.std.proofs.Common.{◌≡◌, ℕ, zero, suc, ◌+◌, ◌-◌, ◌==◌, nat_eq, Bool, true, false, not, ◌&&◌, ◌||◌, if◌then◌else◌, List, [], ◌∷◌, length, Some, None, refl, sym, ap, subst, ◌∙◌}
+use Rattle.std.proofs.Common.{◌≡◌, ℕ, zero, suc, ◌+◌, ◌-◌, ◌==◌, nat_eq, Bool, true, false, ◌&&◌, ◌||◌, if◌then◌else◌, List, [], ◌∷◌, length, Some, None, refl, subst}
 use Rattle.std.specs.Prelude.{Option, ⊤, bytes_eq, codes, drop}
 use Rattle.std.specs.Option.{option_map, option_and_then}
 use Rattle.std.specs.Str.{chars, encode_utf8_all}
@@ -8,10 +8,10 @@ use Prim.Native.String.{String}
 use Rattle.ssr_syntax_kinds.specs.declared.kinds.SyntaxKind.{SyntaxKind}
 use Rattle.ssr_syntax_kinds.specs.declared.kinds.SyntaxKind.TheVariants as k
 use Rattle.ssr_syntax_kinds.specs.declared.range.TextRange.{TextRange}
-use Rattle.ssr_syntax_lex.specs.Characters.{◌∈◌, is_whitespace, is_digit, starts_word, is_in_line, continues_word}
+use Rattle.ssr_syntax_lex.specs.Characters.{◌∈◌, is_whitespace, is_digit, starts_word, continues_word}
 use Rattle.ssr_syntax_lex.specs.Cursor.{Chars, passes_at, begins, run, past}
-use Rattle.ssr_syntax_lex.specs.Numbers.{Part, number, number_kind, takes_point, takes_sign, with_point, has_exponent, with_sign, whole_run}
-use Rattle.ssr_syntax_lex.specs.Raw.{Taken, token, closed, punctuation, kind_of_word, past_word, begins_string, begins_raw_identifier, begins_lifetime, past_string}
+use Rattle.ssr_syntax_lex.specs.Numbers.{number, number_kind, takes_point, takes_sign, with_point, has_exponent, with_sign, whole_run}
+use Rattle.ssr_syntax_lex.specs.Raw.{Taken, token, closed, punctuation, begins_string, begins_raw_identifier, begins_lifetime, past_string}
 use Rattle.ssr_syntax_lex.specs.Scan.{past_comments, past_char}
 use Rattle.ssr_syntax_lex.specs.Tokens.{tokens, tokens_from, in_front, range_of, size, dots_behind}
 use Rattle.ssr_syntax_lex.specs.Words.{kind_in, word_kind, word_kinds, mark_in, mark_kind, marks}

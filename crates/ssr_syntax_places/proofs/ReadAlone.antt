@@ -1,5 +1,5 @@
 -- What is read alone as an expression is what a name may stand for.
-use Rattle.std.proofs.Common.{◌≡◌, ℕ, ◌<◌, Bool, true, false, not, ◌&&◌, if◌then◌else◌, List, [], ◌∷◌, length, Some, refl, sym, ap, subst, ◌∙◌, arith}
+use Rattle.std.proofs.Common.{◌≡◌, ℕ, ◌<◌, true, false, if◌then◌else◌, List, [], ◌∷◌, length, Some, refl, sym, ap, ◌∙◌, arith}
 use Rattle.std.specs.Prelude.{reverse}
 use Rattle.std.specs.Str.{IsUtf8}
 use Rattle.std.proofs.lemmas.Bool.{and_parts, not-true}
@@ -15,8 +15,8 @@ use Rattle.ssr_syntax_rows.specs.Lossless.{whole_tree}
 use Rattle.ssr_syntax_rows.specs.MacroRules.{misnames_macros}
 use Rattle.ssr_syntax_rows.specs.Solid.{begins_solid, solid_token, solid_tokens, pieces}
 use Rattle.ssr_syntax.specs.Reading.{trimmed, FitsFragmentOf}
-use Rattle.ssr_syntax_places.specs.Core.{Hole, hole_of}
-use Rattle.ssr_syntax_places.specs.LongTexts.{IsInside, IsReadAlone}
+use Rattle.ssr_syntax_places.specs.Core.{hole_of}
+use Rattle.ssr_syntax_places.specs.LongTexts.{IsReadAlone}
 use Rattle.ssr_syntax_places.specs.Standing.{node}
 use Rattle.ssr_syntax_places.proofs.Fillings.{alone_fills}
 use Rattle.ssr_syntax_places.proofs.WholeTokens.{whole_solid}

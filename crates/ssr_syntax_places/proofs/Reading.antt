@@ -1,13 +1,12 @@
 -- What fits a fragment is what is read of it, unless it is too deep. `ssr_syntax` has proved this of its readers; its lemmas
 -- aren't for other crates, so the last steps are told again.
-use Rattle.std.proofs.Common.{◌≡◌, ℕ, zero, suc, ◌+◌, ◌^◌, ◌<◌, ◌≤◌, nat_lt, Bool, true, false, ◌&&◌, if◌then◌else◌, List, [], ◌∷◌, ◌++◌, length, Some, None, Ok, Err, ◌⊎◌, inl, inr, refl, sym, ap, subst, ◌∙◌, arith}
+use Rattle.std.proofs.Common.{◌≡◌, ℕ, ◌+◌, ◌^◌, ◌<◌, ◌≤◌, nat_lt, Bool, true, false, ◌&&◌, if◌then◌else◌, List, [], length, Some, None, Ok, Err, ◌⊎◌, inl, inr, refl, sym, ap, subst, ◌∙◌, arith}
 use Rattle.std.specs.Prelude.{Result, reverse}
 use Rattle.std.proofs.lemmas.List.{append-nil}
-use Rattle.std.proofs.lemmas.Bool.{ltb-true, ltb-false, lt-ltb}
+use Rattle.std.proofs.lemmas.Bool.{ltb-false, lt-ltb}
 use Rattle.ssr_syntax_kinds.specs.declared.fragment.Fragment.{Fragment}
 use Rattle.ssr_syntax_kinds.specs.declared.kinds.SyntaxKind.{SyntaxKind}
 use Rattle.ssr_syntax_kinds.specs.declared.reach.Reach.{Reach}
-use Rattle.ssr_syntax_lex.specs.Tokens.{tokens}
 use Rattle.ssr_syntax_lex.specs.declared.tokens.RawToken.{RawToken}
 use Rattle.ssr_syntax_tree.specs.Syntax.{Syntax, depth_of, most_deep}
 use Rattle.ssr_syntax_forms.specs.declared.fault.Fault.{Fault}
@@ -24,7 +23,7 @@ use Rattle.ssr_syntax_rows.specs.MacroRules.{misnames_macros}
 use Rattle.ssr_syntax_rows.specs.Solid.{begins_solid, pieces, solid_tokens}
 use Rattle.ssr_syntax_rows.proofs.Shared.{whole-depth}
 use Rattle.ssr_syntax.specs.Grammar.{grammar_of}
-use Rattle.ssr_syntax.specs.Reading.{most_high, most_levels, whole, reading, error_of, one_tree, unless_too_deep, tree_reading, lexed_reading, trimmed, goal_of, fragment_reading_of, FitsTokens, FitsFragmentOf}
+use Rattle.ssr_syntax.specs.Reading.{most_high, most_levels, whole, reading, error_of, one_tree, tree_reading, lexed_reading, trimmed, goal_of, fragment_reading_of, FitsTokens, FitsFragmentOf}
 use Rattle.ssr_syntax.specs.declared.syntax_error.SyntaxError.{SyntaxError}
 use Rattle.ssr_syntax.specs.declared.syntax_error.SyntaxError.TheVariants as errors
 use Rattle.ssr_syntax_places.specs.LongTexts.{unless_deep}

@@ -33,3 +33,20 @@ pub use Rattle.ssr_syntax_places.proofs.Woven.{woven_lexes, woven_filled}
 pub use Rattle.ssr_syntax_places.proofs.LongTexts.{long_fits}
 -- ranges and assignments
 pub use Rattle.ssr_syntax_places.proofs.Loosest.{range_anywhere, inclusive_anywhere, assignment_anywhere}
+-- what is read of a text, the forest behind it, and which of these are core
+pub use Rattle.ssr_syntax_places.proofs.Behind.{forest_behind}
+pub use Rattle.ssr_syntax_places.proofs.Reading.{fragment_told}
+pub use Rattle.ssr_syntax_places.proofs.PutInside.{fits_spells}
+pub use Rattle.ssr_syntax_places.proofs.PlainCore.{tree_core}
+pub use Rattle.ssr_syntax_places.proofs.ReadAlone.{read_alone}
+-- templates, node by node
+pub use Rattle.ssr_syntax_places.proofs.Templates.{IsName, IsOwn, IsTemplate, IsNodeTemplate, AreSpelled, core_template, arguments_template, filled_spelled, node_tokens}
+-- long texts that are read by short ones
+pub use Rattle.ssr_syntax_places.proofs.LongReading.{long_whole, long_read}
+pub use Rattle.ssr_syntax_places.proofs.FilledDepth.{long_depth}
+pub use Rattle.ssr_syntax_places.proofs.LongNodes.{long_nodes, read_nodes}
+-- which nodes have parts of joined tokens as children
+pub use Rattle.ssr_syntax_places.proofs.PartLeaves.{Parts, may_have, suits, keeps_parts, any_part, other_part, IsWholeLeaf, IsPartLeaf, HasLeaves, HasParts, IsTold, IsMade, has_parts}
+-- of how many tokens those of a text are joined
+pub use Rattle.ssr_syntax_places.proofs.RawKinds.{IsSingle, AllSingle, all_raw_single}
+pub use Rattle.ssr_syntax_places.proofs.TokenSizes.{IsSized, AreSized, all_sized}

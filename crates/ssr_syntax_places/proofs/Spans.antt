@@ -1,21 +1,21 @@
 -- The bytes of nodes in plain trees, and in those that are laid over the pieces of a text.
-use Rattle.std.proofs.Common.{◌≡◌, ℕ, zero, suc, ◌+◌, ◌<◌, ◌≤◌, ◌==◌, Bool, true, false, ◌&&◌, ◌||◌, if◌then◌else◌, List, [], ◌∷◌, ◌++◌, length, take, inl, inr, refl, sym, ap, subst, ◌∙◌, arith, append_assoc}
+use Rattle.std.proofs.Common.{◌≡◌, ℕ, zero, suc, ◌+◌, ◌≤◌, ◌==◌, Bool, true, false, ◌&&◌, ◌||◌, List, [], ◌∷◌, ◌++◌, length, take, inl, inr, refl, sym, ap, ◌∙◌, arith, append_assoc}
 use Rattle.std.specs.List.{list_any}
 use Rattle.std.proofs.Math.Bool.{or-false}
 use Rattle.std.proofs.Math.Seq.{take-append_seam}
-use Rattle.std.proofs.lemmas.Bool.{and_parts, eqb-true, eqb-false, eq-eqb, or_cases}
+use Rattle.std.proofs.lemmas.Bool.{and_parts, eqb-true, eq-eqb, or_cases}
 use Rattle.std.proofs.lemmas.Grind.{flat_map-append}
 use Rattle.std.proofs.lemmas.List.{append-nil, length-append}
 use Rattle.std.proofs.lemmas.List.Folds.{list_any-append}
 use Rattle.ssr_syntax_kinds.specs.declared.kinds.SyntaxKind.{SyntaxKind}
-use Rattle.ssr_syntax_tree.specs.Places.{Node, nodes_in, nodes_of, start_of, end_of, offset_of}
+use Rattle.ssr_syntax_tree.specs.Places.{Node, nodes_in, start_of, end_of, offset_of}
 use Rattle.ssr_syntax_tree.specs.Syntax as plain
 use Rattle.ssr_syntax_tree.specs.Syntax.{Syntax, nothing, leaf, branch, tokens_in, tokens_of}
 use Rattle.ssr_syntax_tree.proofs.Shared.{length-tokens_in}
 use Rattle.ssr_syntax_forms.specs.Trees as solid
 use Rattle.ssr_syntax_forms.specs.declared.tokens.Token.{Token}
-use Rattle.ssr_syntax_rows.specs.Lossless.{trivia, behind_trivia, gap, behind_gap, upto, past, before, behind, lossless}
-use Rattle.ssr_syntax_rows.proofs.Shared.{upto-add, upto-zero, upto-behind_trivia, past-zero}
+use Rattle.ssr_syntax_rows.specs.Lossless.{gap, behind_gap, upto, past, before, behind, lossless}
+use Rattle.ssr_syntax_rows.proofs.Shared.{upto-add, upto-zero, upto-behind_trivia}
 use Rattle.ssr_syntax_places.specs.Spans.{has_node_at}
 
 -- ** Tests of numbers.

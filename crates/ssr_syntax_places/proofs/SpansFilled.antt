@@ -4,18 +4,16 @@ use Rattle.std.proofs.lemmas.List.{append-nil, length-append}
 use Rattle.std.proofs.lemmas.Bool.{and_from, and_parts, cases_Bool, eq-eqb, eqb-true}
 use Rattle.ssr_syntax_kinds.specs.declared.kinds.SyntaxKind.{SyntaxKind}
 use Rattle.ssr_syntax_tree.specs.Syntax as plain
-use Rattle.ssr_syntax_forms.specs.declared.tokens.Token.{Token}
 use Rattle.ssr_syntax_forms.specs.Trees.{Forest, done, leaf, tree, join, spell}
 use Rattle.ssr_syntax_rows.specs.Lossless.{gap, behind_gap, upto, past, lossless}
-use Rattle.ssr_syntax_rows.proofs.Shared.{upto-zero, upto-behind_trivia}
-use Rattle.ssr_syntax_places.specs.Core.{Hole, Holes, is_single, filled, node_filled}
+use Rattle.ssr_syntax_places.specs.Core.{Hole, Holes, filled, node_filled}
 use Rattle.ssr_syntax_places.specs.Standing.{node}
-use Rattle.ssr_syntax_places.proofs.Aligned.{IsPut, IsFor, Step, size_of, filled_size, tokens_size, spelled_size, put_run}
-use Rattle.ssr_syntax_places.proofs.Measured.{Ends, IsOutside, IsApart, IsApartFor, Measure, AreMeasured, Begins, lead_gap, upto_step, upto_put, no_bytes, measured_past, measured_end, measured_gap}
+use Rattle.ssr_syntax_places.proofs.Aligned.{IsPut, IsFor, size_of, filled_size, spelled_size, put_run}
+use Rattle.ssr_syntax_places.proofs.Measured.{Ends, IsOutside, IsApart, IsApartFor, AreMeasured, lead_gap, upto_step, upto_put, no_bytes, measured_past, measured_end, measured_gap}
 use Rattle.ssr_syntax_places.proofs.Misnamed.{AllTrivia}
 use Rattle.ssr_syntax_places.proofs.Pieces.{IsRun, one_run}
 use Rattle.ssr_syntax_places.proofs.Spans.{bytes, bytes_append, has_span, spans_within, laid_bytes, span_leaf, span_tree, upto_gap}
-use Rattle.ssr_syntax_places.proofs.Templates.{IsName, IsOwn, IsTemplate, IsNodeTemplate, AreSpelled, node_tokens}
+use Rattle.ssr_syntax_places.proofs.Templates.{IsName, IsOwn, IsTemplate, IsNodeTemplate, AreSpelled}
 use Rattle.ssr_syntax_places.proofs.Unnamed.{single_length, filled_length}
 
 -- ** One node.

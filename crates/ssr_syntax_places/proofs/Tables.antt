@@ -9,7 +9,7 @@ use Rattle.ssr_syntax_types.specs.declared.goals.Goal.{Goal}
 use Rattle.ssr_syntax_types.specs.declared.goals.Goal.TheVariants.{File, Expr, Condition, Operand, Unary, Ty, PathType, GenericArgs, ForBinder, TokenTree, Pat, StmtList, Stmt, Arm, If, Item, UseTree, Items, Stmts}
 use Rattle.ssr_syntax_types.specs.declared.goals.ExprPlace.{ExprPlace}
 use Rattle.ssr_syntax_types.specs.declared.goals.ExprPlace.TheVariants.{Anywhere, BeforeBlock}
-use Rattle.ssr_syntax_types.specs.declared.goals.PatPlace.TheVariants.{TopLevel, NoBar, BehindAmp}
+use Rattle.ssr_syntax_types.specs.declared.goals.PatPlace.TheVariants.{TopLevel}
 use Rattle.ssr_syntax_types.specs.declared.goals.ItemPlace.TheVariants.{InModule, AsStmt, InImpl, InTrait, InExtern}
 use Rattle.ssr_syntax_forms.specs.Kinds.{where_whole}
 use Rattle.ssr_syntax_forms.specs.Forms.{END}

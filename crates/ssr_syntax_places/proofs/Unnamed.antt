@@ -1,5 +1,5 @@
 -- A filled template misnames no macros if nothing that is put into it does.
-use Rattle.std.proofs.Common.{◌≡◌, ℕ, zero, suc, ◌+◌, ◌-◌, ◌<◌, ◌≤◌, Bool, true, false, ◌&&◌, ◌||◌, List, [], ◌∷◌, ◌++◌, length, Some, inl, inr, refl, sym, ap, subst, ◌∙◌, arith}
+use Rattle.std.proofs.Common.{◌≡◌, ℕ, zero, suc, ◌+◌, ◌-◌, ◌≤◌, Bool, true, false, ◌&&◌, ◌||◌, List, [], ◌∷◌, ◌++◌, length, inl, inr, refl, sym, ap, subst, ◌∙◌, arith}
 use Rattle.std.specs.Prelude.{codes}
 use Rattle.std.proofs.lemmas.List.{append-nil, length-append}
 use Rattle.std.proofs.lemmas.Bool.{or_from, or_parts}
@@ -12,13 +12,12 @@ use Rattle.ssr_syntax_forms.specs.declared.tokens.Token.{Token}
 use Rattle.ssr_syntax_forms.specs.Kinds.{mem}
 use Rattle.ssr_syntax_forms.specs.Trees.{Forest, done, leaf, tree, join, spell}
 use Rattle.ssr_syntax_rows.specs.Lossless.{gap, behind_gap, upto, past, before, behind, lossless}
-use Rattle.ssr_syntax_places.specs.Core.{Hole, Holes, is_single, tokens_filled, filled, node_filled}
+use Rattle.ssr_syntax_places.specs.Core.{Hole, Holes, is_single, filled, node_filled}
 use Rattle.ssr_syntax_places.specs.Standing.{node}
-use Rattle.ssr_syntax_places.proofs.Filling.{single_filled}
 use Rattle.ssr_syntax_places.proofs.Misnamed.{worded, AllTrivia, has_other, has_misnamed, OfWords, IsNamed, misnamed_before, misnamed_behind}
 use Rattle.ssr_syntax_places.proofs.Pieces.{IsRun, lossless_front}
 use Rattle.ssr_syntax_places.proofs.Templates.{IsName, IsOwn, IsTemplate, IsNodeTemplate, AreSpelled, node_tokens}
-use Rattle.ssr_syntax_places.proofs.Aligned.{IsPut, IsFor, Step, AreAligned, size_of, filled_size, tokens_size, spelled_size, run_behind, aligned_behind, aligned_past}
+use Rattle.ssr_syntax_places.proofs.Aligned.{IsPut, IsFor, AreAligned, filled_size, tokens_size, spelled_size, run_behind, aligned_behind, aligned_past}
 
 -- a kind with its word; other kinds are other ones
 pub record Word : Type 0 where
