@@ -15,6 +15,7 @@ use Rattle.ssr_syntax_rows.specs.Solid.{solid_token, solid_tokens, pieces}
 use Rattle.ssr_syntax_rows.proofs.Shared.{past-zero}
 use Rattle.ssr_syntax_places.specs.Core.{Hole, Holes, is_no_hole, are_spelled, token_filled, tokens_filled}
 use Rattle.ssr_syntax_places.specs.Standing.{node}
+use Rattle.ssr_syntax_places.proofs.Filling.{spelled}
 use Rattle.ssr_syntax_places.proofs.Misnamed.{AllTrivia, IsNamed}
 use Rattle.ssr_syntax_places.proofs.Pieces.{behind_lead, past_lead, past_more, IsRun, one_run}
 
@@ -150,15 +151,7 @@ aligned_past holes at (suc c) n (suc k) ts us e are =
 
 -- tokens that stand for themselves are as many as they are
 pub spelled_size : (holes : Holes) (at : ℕ) (us : List Token) → are_spelled holes at us ≡ true → filled_size holes at (length us) ≡ length us
-spelled_size holes at us is = sym (tokens_size holes at us) ∙ ap length (own holes at us is) where
-  alone : (o : Option Hole) (t : Token) → is_no_hole o ≡ true → token_filled o t ≡ t ∷ []
-  alone None t is = refl
-  alone (Some hole) t is = absurd (cc)
-  own : (holes : Holes) (at : ℕ) (us : List Token) → are_spelled holes at us ≡ true → tokens_filled holes at us ≡ us
-  own holes at [] is = refl
-  own holes at (t ∷ us) is =
-      let halves = and_parts (is_no_hole (holes at)) (are_spelled holes (at + 1) us) is in
-      ap (λ w. w ++ tokens_filled holes (at + 1) us) (alone (holes at) t halves.0) ∙ ap (λ w. t ∷ w) (own holes (at + 1) us halves.1)
+spelled_size holes at us is = sym (tokens_size holes at us) ∙ ap length (spelled holes at us is)
 
 -- ** More white space and comments in front.
 

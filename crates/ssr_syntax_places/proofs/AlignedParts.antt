@@ -14,6 +14,7 @@ use Rattle.ssr_syntax_places.specs.LongTexts.{IsInside, AreInsides}
 use Rattle.ssr_syntax_places.specs.Woven.{Part, AreWoven, solid_parts, pieces_parts, StandFor}
 use Rattle.ssr_syntax_places.proofs.Aligned.{IsFor, AreAligned, aligned_lead, aligned_own}
 use Rattle.ssr_syntax_places.proofs.Insides.{some_same}
+use Rattle.ssr_syntax_places.proofs.Woven.{single_length}
 use Rattle.ssr_syntax_places.proofs.PutInside.{IsPutOf, inside_put}
 
 -- ** A name, and what stands for it.
@@ -85,7 +86,7 @@ aligned_parts reach holes at k (p ∷ ps) (q ∷ qs) last after (utf8, opens, fr
     let ts : List plain.Token = pieces_parts ps (pieces last after) in
     let ws : List plain.Token = pieces_parts qs (pieces last after) in
     let is_name : IsAlone p.within = alone p.within one single in
-    let count : length name ≡ 1 = single_count name single in
+    let count : length name ≡ 1 = single_length name single in
     let size : k ≡ length us + suc rest =
     omega (arith, e, count, length-append us (name ++ solid_parts ps (solid_tokens after)), length-append name (solid_parts ps (solid_tokens after))) in
     let put : IsPutOf hole (pieces q.inside q.within) =
@@ -94,8 +95,4 @@ aligned_parts reach holes at k (p ∷ ps) (q ∷ qs) last after (utf8, opens, fr
     subst (λ l. AreAligned holes at k (pieces (p.front ++ p.opening ∷ []) p.before ++ (pieces p.inside p.within ++ ts)) (l ++ (pieces q.inside q.within ++ ws)))
     (sym (same_front p q front_is long_front front opening))
     (aligned_own holes at (suc rest) k (p.front ++ p.opening ∷ []) p.before (pieces p.inside p.within ++ ts) (pieces q.inside q.within ++ ws) size own
-    (aligned_name holes hole place rest p.inside p.within (pieces q.inside q.within) ts ws is_name held put behind)) where
-      single_count : (us : List Token) → is_single us ≡ true → length us ≡ 1
-      single_count [] is = absurd (cc)
-      single_count (t ∷ []) is = refl
-      single_count (t ∷ u ∷ us) is = absurd (cc)
+    (aligned_name holes hole place rest p.inside p.within (pieces q.inside q.within) ts ws is_name held put behind))

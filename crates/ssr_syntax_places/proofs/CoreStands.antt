@@ -34,7 +34,7 @@ of_kind : (reach : Reach) (holes : Holes) (callable : Bool) (n at : ℕ) (kind o
 of_kind reach holes callable n at kind other kids same stands =
     subst (λ w. StandsFilled reach holes callable n at w kids) (sym (same_kind-equal kind other same)) stands
 
-chosen : (b x y : Bool) → (if b then x else y) ≡ true → ((b ≡ true) × (x ≡ true)) ⊎ (y ≡ true)
+pub chosen : (b x y : Bool) → (if b then x else y) ≡ true → ((b ≡ true) × (x ≡ true)) ⊎ (y ≡ true)
 chosen true x y e = inl (refl, e)
 chosen false x y e = inr e
 
@@ -198,14 +198,14 @@ further_argument reach holes at m b xs args vs comma inside others =
 -- ** All of them.
 
 -- the tests of an operator between two operands, and those of a field
-abbrev is_binary : Holes → Bool → ℕ → ℕ → SyntaxKind → Forest → SyntaxKind → List Token → SyntaxKind → Forest → Bool
+abbrev pub is_binary : Holes → Bool → ℕ → ℕ → SyntaxKind → Forest → SyntaxKind → List Token → SyntaxKind → Forest → Bool
 is_binary holes callable n at m xs a us j ys =
     (nat_lt (row_in ranks a) (length ranks) && nat_le (4 + row_in ranks a) n)
     && is_leaf holes (at + length (spell xs)) (operators (row_in ranks a)) a us
     && (core holes false (4 + row_in ranks a) at m xs
     && core holes callable (3 + row_in ranks a) ((at + length (spell xs)) + length us) j ys)
 
-abbrev is_field : Holes → Bool → ℕ → ℕ → SyntaxKind → SyntaxKind → Forest → SyntaxKind → List Token → SyntaxKind → Forest → Bool
+abbrev pub is_field : Holes → Bool → ℕ → ℕ → SyntaxKind → SyntaxKind → Forest → SyntaxKind → List Token → SyntaxKind → Forest → Bool
 is_field holes callable n at kind m xs a us j ys =
     nat_le 1 n && core holes false 1 at m xs
     && (same_kind kind k.FIELD_EXPR

@@ -120,7 +120,7 @@ hole_stands reach holes callable n at hole kids e filling single binds few =
     (called_as reach n hole.callable callable hole.tree hole.tokens halves.1
     (stands_looser reach hole.precedence n hole.callable hole.tree hole.tokens tight (filling.operand (omega (arith, tight, few)))))
 
-held_hole : (o : Option Hole) → not (is_no_hole o) ≡ true → (hole : Hole) × (o ≡ Some hole)
+pub held_hole : (o : Option Hole) → not (is_no_hole o) ≡ true → (hole : Hole) × (o ≡ Some hole)
 held_hole None is = absurd (cc)
 held_hole (Some hole) is = (hole, refl)
 

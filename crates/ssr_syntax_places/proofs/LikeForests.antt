@@ -1,5 +1,5 @@
 -- The forest behind a tree, and that which the kinds of the tree's tokens tell.
-use Rattle.std.proofs.Common.{◌≡◌, ℕ, zero, suc, ◌+◌, ◌-◌, ◌<◌, nat_eq, Bool, true, false, not, ◌&&◌, if◌then◌else◌, List, [], ◌∷◌, ◌++◌, length, ◌⊎◌, inl, inr, refl, sym, ap, subst, ◌∙◌, arith}
+use Rattle.std.proofs.Common.{◌≡◌, ℕ, ◌+◌, ◌-◌, ◌<◌, nat_eq, Bool, true, false, not, ◌&&◌, if◌then◌else◌, List, [], ◌∷◌, ◌++◌, length, ◌⊎◌, inl, inr, refl, sym, ap, subst, ◌∙◌, arith}
 use Rattle.std.specs.Prelude.{⊤, replicate}
 use Rattle.std.proofs.lemmas.List.{length-append, length-replicate}
 use Rattle.std.proofs.lemmas.Bool.{and_from, and_parts, eqb-true}
@@ -21,7 +21,7 @@ use Rattle.ssr_syntax_places.specs.PlainCore.{of_two, of_three, size_of_kind, to
 use Rattle.ssr_syntax_places.specs.Standing.{is_token}
 use Rattle.ssr_syntax_places.proofs.Misnamed.{AllTrivia}
 use Rattle.ssr_syntax_places.proofs.PartLeaves.{any_part, other_part, IsWholeLeaf, IsPartLeaf, HasLeaves, HasParts}
-use Rattle.ssr_syntax_places.proofs.Pieces.{all_trivia}
+use Rattle.ssr_syntax_places.proofs.Pieces.{gap_all}
 use Rattle.ssr_syntax_places.proofs.TokenSizes.{IsSized, AreSized}
 
 -- ** Tokens by their kinds.
@@ -56,10 +56,6 @@ forest_behind_trivia plain.nothing ts all = forest_before ts plain.nothing all
 forest_behind_trivia (plain.leaf t x) ts all =
     ap (λ z. if is_trivia t.kind then z else leaf t.kind (tokens_like t.kind) z) (forest_behind_trivia x ts all)
 forest_behind_trivia (plain.branch kind below x) ts all = ap (λ z. tree kind (forest_in below) z) (forest_behind_trivia x ts all)
-
-gap_all : (n : ℕ) (ts : List plain.Token) → AllTrivia (gap n ts)
-gap_all zero ts = tt
-gap_all (suc n) ts = all_trivia ts
 
 -- the kinds of the leaves are no white space and no comments
 abbrev pub AreMarks : Forest → Type 0

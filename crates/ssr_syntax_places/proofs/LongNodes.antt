@@ -9,7 +9,7 @@ use Rattle.ssr_syntax_lex.specs.declared.tokens.RawToken.{RawToken}
 use Rattle.ssr_syntax_tree.specs.Syntax as plain
 use Rattle.ssr_syntax_tree.specs.Syntax.{Syntax, nothing, branch, tokens_in}
 use Rattle.ssr_syntax_forms.specs.Trees.{Forest, spell}
-use Rattle.ssr_syntax_rows.specs.Lossless.{upto, past, before, behind, lossless, whole_tree}
+use Rattle.ssr_syntax_rows.specs.Lossless.{upto, past, behind, lossless, whole_tree}
 use Rattle.ssr_syntax_rows.specs.Solid.{solid_tokens, pieces}
 use Rattle.ssr_syntax_rows.proofs.Shared.{upto-past}
 use Rattle.ssr_syntax.specs.Reading.{trimmed}
@@ -22,15 +22,11 @@ use Rattle.ssr_syntax_places.proofs.Insides.{some_same}
 use Rattle.ssr_syntax_places.proofs.LongReading.{IsTemplateOf, fillings_spelled, root_filled, template_of}
 use Rattle.ssr_syntax_places.proofs.Measured.{Ends, AreMeasured}
 use Rattle.ssr_syntax_places.proofs.MeasuredParts.{text_bytes, IsAhead, measured_parts}
-use Rattle.ssr_syntax_places.proofs.Spans.{bytes, bytes_append, has_span, laid_bytes, same_tests, both_fail, span_behind, tree_spans}
+use Rattle.ssr_syntax_places.proofs.Spans.{tokens_before, bytes, bytes_append, has_span, laid_bytes, same_tests, both_fail, span_behind, tree_spans}
 use Rattle.ssr_syntax_places.proofs.SpansFilled.{filled_spans}
 use Rattle.ssr_syntax_places.proofs.Woven.{woven_lexes}
 
 -- ** The nodes of a whole tree.
-
-tokens_before : (ts : List plain.Token) (x : plain.Forest) → tokens_in (before ts x) ≡ ts ++ tokens_in x
-tokens_before [] x = refl
-tokens_before (t ∷ ts) x = ap (λ l. t ∷ l) (tokens_before ts x)
 
 bytes_behind : (x : plain.Forest) (ts : List plain.Token) → bytes (tokens_in (behind x ts)) ≡ bytes (tokens_in x) + bytes ts
 bytes_behind nothing ts = ap bytes (tokens_before ts nothing) ∙ bytes_append ts [] ∙ turned (bytes ts) where

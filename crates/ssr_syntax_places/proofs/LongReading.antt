@@ -37,7 +37,7 @@ use Rattle.ssr_syntax_places.proofs.LongTexts.{long_fits}
 use Rattle.ssr_syntax_places.proofs.Misnamed.{named_whole}
 use Rattle.ssr_syntax_places.proofs.Outside.{front_some, same_outside}
 use Rattle.ssr_syntax_places.proofs.PlainCore.{tree_core}
-use Rattle.ssr_syntax_places.proofs.PutInside.{fits_spells}
+use Rattle.ssr_syntax_places.proofs.Placed.{goal_spelled}
 use Rattle.ssr_syntax_places.proofs.Templates.{IsOwn, IsTemplate, AreSpelled, core_template}
 use Rattle.ssr_syntax_places.proofs.Unnamed.{filled_free, whole_named}
 use Rattle.ssr_syntax_places.proofs.Woven.{woven_lexes}
@@ -46,7 +46,7 @@ use Rattle.ssr_syntax_places.proofs.Woven.{woven_lexes}
 pub fillings_spelled : (reach : Reach) (holes : Holes) → AreFillings reach holes → AreSpelled holes
 fillings_spelled reach holes are number hole held =
     let closing : Token = record { kind = k.R_PAREN; joined = k.R_PAREN; size = 1 } in
-    fits_spells reach (Expr Anywhere) hole.tree hole.tokens (closing ∷ []) ((are number hole held).inside (closing ∷ []) refl [])
+    goal_spelled (grammar_of reach) (Expr Anywhere) hole.tree hole.tokens (closing ∷ []) ((are number hole held).inside (closing ∷ []) refl [])
 
 -- ** The root is no name.
 
@@ -74,7 +74,7 @@ single_some (t ∷ us) is = omega arith
 template_spelled : (reach : Reach) (text : List ℕ) (raw : List RawToken) (kind : SyntaxKind) (kids : Forest) → IsBehind reach text raw kind kids
     → spell kids ≡ solid_tokens raw
 template_spelled reach text raw kind kids behind =
-    sym (append-nil (spell kids)) ∙ fits_spells reach (Expr Anywhere) (node kind kids) (solid_tokens raw) [] behind.fits
+    sym (append-nil (spell kids)) ∙ goal_spelled (grammar_of reach) (Expr Anywhere) (node kind kids) (solid_tokens raw) [] behind.fits
 
 -- the template that the short text is
 pub record IsTemplateOf (reach : Reach) (holes : Holes) (short long : List Part) (after : List RawToken) (kind : SyntaxKind) (kids : Forest) : Type 0 where

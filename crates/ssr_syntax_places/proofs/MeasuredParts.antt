@@ -26,7 +26,7 @@ use Rattle.ssr_syntax_places.proofs.Misnamed.{AllTrivia}
 use Rattle.ssr_syntax_places.proofs.Outside.{last_of, reversed_pieces}
 use Rattle.ssr_syntax_places.proofs.PutInside.{IsPutOf, inside_put}
 use Rattle.ssr_syntax_places.proofs.Spans.{bytes, bytes_append, bytes_first, same_tests, both_fail}
-use Rattle.ssr_syntax_places.proofs.Unnamed.{single_length}
+use Rattle.ssr_syntax_places.proofs.Woven.{single_length}
 
 -- the pieces of a text have its bytes
 pub text_bytes : (text : List ℕ) (raw : List RawToken) → IsUtf8 text → tokens text ≡ Some raw → bytes (pieces text raw) ≡ length text

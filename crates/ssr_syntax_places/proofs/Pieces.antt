@@ -15,9 +15,13 @@ solid_count (t ∷ ts) = if is_trivia t.kind then solid_count ts else suc (solid
 
 -- ** Behind white space and comments.
 
-pub all_trivia : (ts : List plain.Token) → AllTrivia (trivia ts)
+all_trivia : (ts : List plain.Token) → AllTrivia (trivia ts)
 all_trivia [] = tt
 all_trivia (t ∷ ts) = by_kind (λ b. AllTrivia (if b then t ∷ trivia ts else [])) t (λ e. (e, all_trivia ts)) (λ e. tt)
+
+pub gap_all : (n : ℕ) (ts : List plain.Token) → AllTrivia (gap n ts)
+gap_all zero ts = tt
+gap_all (suc n) ts = all_trivia ts
 
 pub trivia_lead : (lead ts : List plain.Token) → AllTrivia lead → trivia (lead ++ ts) ≡ lead ++ trivia ts
 trivia_lead [] ts all = refl

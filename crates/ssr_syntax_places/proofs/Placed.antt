@@ -113,7 +113,7 @@ owner_seals grammar own (f then g) x z _ rest is (behind {y = y} {us = us} {vs =
     owner_seals grammar own g y z vs rest (and_parts (is_clear own.kind own.asks f) (is_owner own.kind own.asks g) is).1 t
 owner_seals grammar own _ x z us rest is f = absurd (cc)
 
-goal_spelled : {Goal : Type 0} (grammar : Productions Goal) (asked : Goal) (y : Forest) (us rest : List Token) → Fits grammar (grammar asked) done y us rest → spell y ≡ us
+pub goal_spelled : {Goal : Type 0} (grammar : Productions Goal) (asked : Goal) (y : Forest) (us rest : List Token) → Fits grammar (grammar asked) done y us rest → spell y ≡ us
 goal_spelled grammar asked y us rest f = let a = at_some_level grammar asked y us rest f in goals_spell grammar a.0 asked y us rest a.1
 
 -- a replaced node, asked for by a goal that owns it

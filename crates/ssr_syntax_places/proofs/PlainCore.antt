@@ -28,7 +28,8 @@ use Rattle.ssr_syntax_places.proofs.LikeCore.{core_like}
 use Rattle.ssr_syntax_places.proofs.LikeForests.{like, AreMarks, Known, KnownNode, all_known, forest_behind_trivia, forest_like}
 use Rattle.ssr_syntax_places.proofs.PartLeaves.{Parts, any_part, other_part, keeps_parts, HasParts, has_parts}
 use Rattle.ssr_syntax_places.proofs.Pieces.{solid_count, past_all}
-use Rattle.ssr_syntax_places.proofs.PutInside.{fits_spells, count_pieces}
+use Rattle.ssr_syntax_places.proofs.PutInside.{count_pieces}
+use Rattle.ssr_syntax_places.proofs.Placed.{goal_spelled}
 use Rattle.ssr_syntax_places.proofs.RawKinds.{all_raw_single}
 use Rattle.ssr_syntax_places.proofs.TokenSizes.{AreSized, all_sized}
 
@@ -60,7 +61,7 @@ pub known_tree : (reach : Reach) (text : List ℕ) (raw : List RawToken) (kind :
 known_tree reach text raw kind kids behind =
     let z : Forest = node kind kids in
     let us : List Token = solid_tokens raw in
-    let whole : spell z ≡ us = fits_spells reach (Expr Anywhere) z us [] behind.fits in
+    let whole : spell z ≡ us = goal_spelled (grammar_of reach) (Expr Anywhere) z us [] behind.fits in
     let spells : spell kids ≡ us = sym (append-nil (spell kids)) ∙ whole in
     let level = at_some_level (grammar_of reach) (Expr Anywhere) z us [] behind.fits in
     let taken : AreTaken z = goals_taken (grammar_of reach) level.0 (Expr Anywhere) z us [] level.1 in

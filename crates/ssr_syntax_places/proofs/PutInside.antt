@@ -10,12 +10,10 @@ use Rattle.ssr_syntax_kinds.specs.declared.reach.Reach.{Reach}
 use Rattle.ssr_syntax_lex.specs.declared.tokens.RawToken.{RawToken}
 use Rattle.ssr_syntax_tree.specs.Syntax as plain
 use Rattle.ssr_syntax_tree.specs.Syntax.{nothing, branch}
-use Rattle.ssr_syntax_forms.specs.declared.tokens.Token.{Token}
-use Rattle.ssr_syntax_forms.specs.Fitting.{Fits}
 use Rattle.ssr_syntax_forms.specs.Trees as solid
 use Rattle.ssr_syntax_forms.specs.Trees.{Forest, done, spell}
-use Rattle.ssr_syntax_forms.proofs.Shared.{at_some_level, goals_spell}
-use Rattle.ssr_syntax_types.specs.declared.goals.Goal.{Goal}
+use Rattle.ssr_syntax_types.specs.declared.goals.Goal.TheVariants.{Expr}
+use Rattle.ssr_syntax_types.specs.declared.goals.ExprPlace.TheVariants.{Anywhere}
 use Rattle.ssr_syntax_rows.specs.Lossless.{behind_trivia, gap, behind_gap, upto, past, before, behind, lossless, whole_tree}
 use Rattle.ssr_syntax_rows.specs.Solid.{solid_token, solid_tokens, pieces}
 use Rattle.ssr_syntax_rows.proofs.Shared.{upto-zero, past-zero}
@@ -23,15 +21,9 @@ use Rattle.ssr_syntax.specs.Grammar.{grammar_of}
 use Rattle.ssr_syntax_places.specs.Core.{Hole}
 use Rattle.ssr_syntax_places.specs.LongTexts.{IsInside}
 use Rattle.ssr_syntax_places.proofs.Misnamed.{AllTrivia, has_other, has_misnamed, IsNamed, named_parts, misnamed_before, misnamed_behind, others_before, others_front}
-use Rattle.ssr_syntax_places.proofs.Pieces.{solid_count, all_trivia, behind_lead, past_lead, lossless_front, Split, split}
+use Rattle.ssr_syntax_places.proofs.Placed.{goal_spelled}
+use Rattle.ssr_syntax_places.proofs.Pieces.{solid_count, gap_all, behind_lead, past_lead, lossless_front, Split, split}
 use Rattle.ssr_syntax_places.proofs.Aligned.{IsPut}
-
--- what fits has the tokens that it takes
-pub fits_spells : (reach : Reach) (asked : Goal) (z : Forest) (us rest : List Token) → Fits (grammar_of reach) (grammar_of reach asked) done z us rest
-    → spell z ≡ us
-fits_spells reach asked z us rest fits =
-    let level = at_some_level (grammar_of reach) asked z us rest fits in
-    goals_spell (grammar_of reach) level.0 asked z us rest level.1
 
 pub count_pieces : (text : List ℕ) (raw : List RawToken) → solid_count (pieces text raw) ≡ length (solid_tokens raw)
 count_pieces text [] = refl
@@ -72,11 +64,6 @@ alike_branch kind word a z w x y inner alike = record {
       ∙ ap (λ b. (same_kind a kind && has_other word w) || (b || has_misnamed kind word x)) inner.below
       ∙ ap (λ b. (same_kind a kind && has_other word w) || (has_misnamed kind word w || b)) alike.below;
 }
-
--- the white space and comments in front of some tokens, with more of them in front
-gap_all : (n : ℕ) (ts : List plain.Token) → AllTrivia (gap n ts)
-gap_all zero ts = tt
-gap_all (suc n) ts = all_trivia ts
 
 upto_lead : (n : ℕ) (lead ts : List plain.Token) → AllTrivia lead → upto n (behind_gap n (lead ++ ts)) ≡ upto n (behind_gap n ts)
 upto_lead zero lead ts all = upto-zero (lead ++ ts) ∙ sym (upto-zero ts)
@@ -173,7 +160,7 @@ inside_put reach hole text raw inside same =
     let some : 0 < n = omega (arith, inside.some, ap length same) in
     let cut : Split n ts = split n ts some (omega (arith, count)) in
     let spells : spell kids ≡ hole.tokens =
-    sym (append-nil (spell kids)) ∙ ap spell (sym inside.tree) ∙ fits_spells reach _ hole.tree (solid_tokens raw) [] inside.fits ∙ sym same in
+    sym (append-nil (spell kids)) ∙ ap spell (sym inside.tree) ∙ goal_spelled (grammar_of reach) (Expr Anywhere) hole.tree (solid_tokens raw) [] inside.fits ∙ sym same in
     let front : lossless kids (cut.inner ++ cut.trail) ≡ lossless kids cut.inner =
     lossless_front kids cut.inner cut.trail (omega (arith, ap length spells, cut.run.enough)) in
     let whole : IsNamed (branch inside.kind (behind (lossless kids ts) (past (length (spell kids)) ts)) nothing) =

@@ -24,7 +24,7 @@ pub use Rattle.ssr_syntax_places.proofs.CoreStands.{core_stands}
 pub use Rattle.ssr_syntax_places.proofs.Fillings.{stands_fills, alone_fills, filled_fits}
 -- nodes in the places of others
 pub use Rattle.ssr_syntax_places.proofs.Alike.{Alike, alike_front, alike_open, stops_open}
-pub use Rattle.ssr_syntax_places.proofs.Placed.{is_clear, is_owner, Owned, made_anew}
+pub use Rattle.ssr_syntax_places.proofs.Placed.{goal_spelled, is_clear, is_owner, Owned, made_anew}
 pub use Rattle.ssr_syntax_places.proofs.Delimited.{blocks_owned}
 pub use Rattle.ssr_syntax_places.proofs.Blocks.{blocks_replaced, block_put}
 -- the insides of brackets in a text
@@ -36,7 +36,6 @@ pub use Rattle.ssr_syntax_places.proofs.Loosest.{range_anywhere, inclusive_anywh
 -- what is read of a text, the forest behind it, and which of these are core
 pub use Rattle.ssr_syntax_places.proofs.Behind.{forest_behind}
 pub use Rattle.ssr_syntax_places.proofs.Reading.{fragment_told}
-pub use Rattle.ssr_syntax_places.proofs.PutInside.{fits_spells}
 pub use Rattle.ssr_syntax_places.proofs.PlainCore.{tree_core}
 pub use Rattle.ssr_syntax_places.proofs.ReadAlone.{read_alone}
 -- templates, node by node

@@ -146,7 +146,7 @@ spans_within at from to (branch kind below x) is =
 
 -- ** Trees laid over the pieces of a text.
 
-tokens_before : (ts : List plain.Token) (x : plain.Forest) → tokens_in (before ts x) ≡ ts ++ tokens_in x
+pub tokens_before : (ts : List plain.Token) (x : plain.Forest) → tokens_in (before ts x) ≡ ts ++ tokens_in x
 tokens_before [] x = refl
 tokens_before (t ∷ ts) x = ap (λ l. t ∷ l) (tokens_before ts x)
 

@@ -14,7 +14,8 @@ use Rattle.ssr_syntax_places.proofs.Misnamed.{AllTrivia}
 use Rattle.ssr_syntax_places.proofs.Pieces.{IsRun, one_run}
 use Rattle.ssr_syntax_places.proofs.Spans.{bytes, bytes_append, has_span, spans_within, laid_bytes, span_leaf, span_tree, upto_gap}
 use Rattle.ssr_syntax_places.proofs.Templates.{IsName, IsOwn, IsTemplate, IsNodeTemplate, AreSpelled}
-use Rattle.ssr_syntax_places.proofs.Unnamed.{single_length, filled_length}
+use Rattle.ssr_syntax_places.proofs.Unnamed.{filled_length}
+use Rattle.ssr_syntax_places.proofs.Woven.{single_length}
 
 -- ** One node.
 

@@ -1,5 +1,5 @@
 -- Templates, node by node: a name that stands for something is a path of its own, and all else stands for itself.
-use Rattle.std.proofs.Common.{◌≡◌, ℕ, ◌+◌, nat_le, nat_lt, Bool, true, false, not, ◌&&◌, ◌||◌, if◌then◌else◌, List, [], ◌∷◌, ◌++◌, length, Some, None, ◌⊎◌, inl, inr, refl, sym, ap, subst, ◌∙◌, append_assoc}
+use Rattle.std.proofs.Common.{◌≡◌, ℕ, ◌+◌, nat_le, Bool, true, false, not, ◌&&◌, ◌||◌, if◌then◌else◌, List, [], ◌∷◌, ◌++◌, length, Some, None, ◌⊎◌, inl, inr, refl, sym, ap, subst, ◌∙◌, append_assoc}
 use Rattle.std.specs.Prelude.{Option, ⊤}
 use Rattle.std.proofs.lemmas.List.{append-nil}
 use Rattle.std.proofs.lemmas.Bool.{and_parts, or_cases}
@@ -18,7 +18,8 @@ use Rattle.ssr_syntax_exprs.specs.Expressions.{operators, prefix_operators, rank
 use Rattle.ssr_syntax.specs.Operands.{row_in}
 use Rattle.ssr_syntax_places.specs.Standing.{node, is_token}
 use Rattle.ssr_syntax_places.specs.Core.{Hole, Holes, tokens_filled, filled, node_filled, path_filled, is_no_hole, are_spelled, is_leaf, is_ampersand, is_single, is_held, binds_enough, is_segment, is_path, is_name_ref, member_names, core, arguments}
-use Rattle.ssr_syntax_places.proofs.Filling.{filled_append, spelled, single_filled}
+use Rattle.ssr_syntax_places.proofs.Filling.{filled_append, held_hole, spelled, single_filled}
+use Rattle.ssr_syntax_places.proofs.CoreStands.{chosen, is_binary, is_field}
 use Rattle.ssr_syntax_places.proofs.Misnamed.{worded}
 
 -- a node that is a name and stands for something
@@ -148,10 +149,6 @@ name_or_path holes callable n at p path (Some hole) e is =
       single = ap is_single (append-nil (spell path)) ∙ halves.0;
     })
 
-held_hole : (o : Option Hole) → not (is_no_hole o) ≡ true → (hole : Hole) × (o ≡ Some hole)
-held_hole None is = absurd (cc)
-held_hole (Some hole) is = (hole, refl)
-
 held_name : (holes : Holes) (at : ℕ) (kind : SyntaxKind) (kids : Forest) → is_held holes at kind kids ≡ true → IsNodeTemplate holes at kind kids
 held_name holes at kind kids is =
     let halves = and_parts (same_kind kind k.PATH_EXPR) (is_single (spell kids) && not (is_no_hole (holes at))) is in
@@ -166,10 +163,6 @@ held_name holes at kind kids is =
       single = both.0;
     })
 
-chosen : (b x y : Bool) → (if b then x else y) ≡ true → ((b ≡ true) × (x ≡ true)) ⊎ (y ≡ true)
-chosen true x y e = inl (refl, e)
-chosen false x y e = inr e
-
 prefix_or_reference : (holes : Holes) (at : ℕ) (kind a : SyntaxKind) (us : List Token) (kids : Forest)
     → (same_kind kind k.PREFIX_EXPR && is_leaf holes at prefix_operators a us || same_kind kind k.REF_EXPR && is_ampersand holes at a us) ≡ true
     → IsTemplate holes (at + length us) kids → IsNodeTemplate holes at kind (leaf a us kids)
@@ -182,21 +175,6 @@ prefix_or_reference holes at kind a us kids is operand =
           let halves = and_parts (same_kind kind k.REF_EXPR) (is_ampersand holes at a us) reference in
           of_kind holes at kind k.REF_EXPR (leaf a us kids) halves.0 refl refl (ampersand_spelled holes at a us halves.1, operand)
     ]
-
--- the tests of an operator between two operands, and those of a field
-abbrev is_binary : Holes → Bool → ℕ → ℕ → SyntaxKind → Forest → SyntaxKind → List Token → SyntaxKind → Forest → Bool
-is_binary holes callable n at m xs a us j ys =
-    (nat_lt (row_in ranks a) (length ranks) && nat_le (4 + row_in ranks a) n)
-    && is_leaf holes (at + length (spell xs)) (operators (row_in ranks a)) a us
-    && (core holes false (4 + row_in ranks a) at m xs
-    && core holes callable (3 + row_in ranks a) ((at + length (spell xs)) + length us) j ys)
-
-abbrev is_field : Holes → Bool → ℕ → ℕ → SyntaxKind → SyntaxKind → Forest → SyntaxKind → List Token → SyntaxKind → Forest → Bool
-is_field holes callable n at kind m xs a us j ys =
-    nat_le 1 n && core holes false 1 at m xs
-    && (same_kind kind k.FIELD_EXPR
-    && (is_leaf holes (at + length (spell xs)) (k.DOT ∷ []) a us
-    && is_name_ref holes ((at + length (spell xs)) + length us) (member_names callable) j ys))
 
 mutual
   pub core_template : (holes : Holes) (callable : Bool) (n at : ℕ) (kind : SyntaxKind) (kids : Forest) → core holes callable n at kind kids ≡ true

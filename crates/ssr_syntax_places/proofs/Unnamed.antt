@@ -1,5 +1,5 @@
 -- A filled template misnames no macros if nothing that is put into it does.
-use Rattle.std.proofs.Common.{◌≡◌, ℕ, zero, suc, ◌+◌, ◌-◌, ◌≤◌, Bool, true, false, ◌&&◌, ◌||◌, List, [], ◌∷◌, ◌++◌, length, inl, inr, refl, sym, ap, subst, ◌∙◌, arith}
+use Rattle.std.proofs.Common.{◌≡◌, ℕ, zero, suc, ◌+◌, ◌-◌, ◌≤◌, Bool, false, ◌&&◌, ◌||◌, List, ◌++◌, length, inl, inr, refl, sym, ap, subst, ◌∙◌, arith}
 use Rattle.std.specs.Prelude.{codes}
 use Rattle.std.proofs.lemmas.List.{append-nil, length-append}
 use Rattle.std.proofs.lemmas.Bool.{or_from, or_parts}
@@ -8,15 +8,15 @@ use Rattle.ssr_syntax_kinds.specs.declared.kinds.SyntaxKind.{SyntaxKind}
 use Rattle.ssr_syntax_kinds.specs.declared.kinds.SyntaxKind.TheVariants as k
 use Rattle.ssr_syntax_tree.specs.Syntax as plain
 use Rattle.ssr_syntax_tree.specs.Syntax.{nothing, branch}
-use Rattle.ssr_syntax_forms.specs.declared.tokens.Token.{Token}
 use Rattle.ssr_syntax_forms.specs.Kinds.{mem}
 use Rattle.ssr_syntax_forms.specs.Trees.{Forest, done, leaf, tree, join, spell}
 use Rattle.ssr_syntax_rows.specs.Lossless.{gap, behind_gap, upto, past, before, behind, lossless}
-use Rattle.ssr_syntax_places.specs.Core.{Hole, Holes, is_single, filled, node_filled}
+use Rattle.ssr_syntax_places.specs.Core.{Hole, Holes, filled, node_filled}
 use Rattle.ssr_syntax_places.specs.Standing.{node}
 use Rattle.ssr_syntax_places.proofs.Misnamed.{worded, AllTrivia, has_other, has_misnamed, OfWords, IsNamed, misnamed_before, misnamed_behind}
 use Rattle.ssr_syntax_places.proofs.Pieces.{IsRun, lossless_front}
 use Rattle.ssr_syntax_places.proofs.Templates.{IsName, IsOwn, IsTemplate, IsNodeTemplate, AreSpelled, node_tokens}
+use Rattle.ssr_syntax_places.proofs.Woven.{single_length}
 use Rattle.ssr_syntax_places.proofs.Aligned.{IsPut, IsFor, AreAligned, filled_size, tokens_size, spelled_size, run_behind, aligned_behind, aligned_past}
 
 -- a kind with its word; other kinds are other ones
@@ -55,11 +55,6 @@ record IsFreeNode (w : Word) (z : Forest) (us : List plain.Token) : Type 0 where
   pub kids : Forest
   pub tree : z ≡ node kind kids
   pub free : IsFree w (branch kind (lossless kids (behind_gap (length (spell kids)) us)) nothing)
-
-pub single_length : (us : List Token) → is_single us ≡ true → length us ≡ 1
-single_length [] is = absurd (cc)
-single_length (t ∷ []) is = refl
-single_length (t ∷ u ∷ us) is = absurd (cc)
 
 put_behind : (n : ℕ) (lead put rest : List plain.Token) → AllTrivia lead → IsRun n put → behind_gap n (lead ++ (put ++ rest)) ≡ put ++ rest
 put_behind zero lead put rest all run = absurd (omega (arith, run.some))

@@ -37,7 +37,7 @@ woven_lexes (p ∷ ps) last after (utf8, opens, front_is, inside_is, seam, all) 
 
 -- ** Names for insides.
 
-single_length : (us : List Token) → is_single us ≡ true → length us ≡ 1
+pub single_length : (us : List Token) → is_single us ≡ true → length us ≡ 1
 single_length [] is = absurd (cc)
 single_length (t ∷ []) is = refl
 single_length (t ∷ u ∷ us) is = absurd (cc)
