@@ -60,12 +60,20 @@ aligned_name holes hole at n text name inside ts us is held put are =
 
 -- ** All parts.
 
+front_text : (p q : Part) → p.front ≡ q.front → p.opening ≡ q.opening → p.front ++ p.opening ∷ [] ≡ q.front ++ q.opening ∷ []
+front_text p q front opening = ap (λ l. l ++ p.opening ∷ []) front ∙ ap (λ c. q.front ++ c ∷ []) opening
+
+-- what stands in front is lexed alike
+pub same_before : (p q : Part) → IsLexed (p.front ++ p.opening ∷ []) p.before → IsLexed (q.front ++ q.opening ∷ []) q.before → p.front ≡ q.front
+    → p.opening ≡ q.opening → p.before ≡ q.before
+same_before p q lexed other front opening =
+    some_same p.before q.before (sym lexed.lexes ∙ ap tokens (front_text p q front opening) ∙ other.lexes)
+
 pub same_front : (p q : Part) → IsLexed (p.front ++ p.opening ∷ []) p.before → IsLexed (q.front ++ q.opening ∷ []) q.before → p.front ≡ q.front
     → p.opening ≡ q.opening → pieces (q.front ++ q.opening ∷ []) q.before ≡ pieces (p.front ++ p.opening ∷ []) p.before
 same_front p q lexed other front opening =
-    let text : p.front ++ p.opening ∷ [] ≡ q.front ++ q.opening ∷ [] = ap (λ l. l ++ p.opening ∷ []) front ∙ ap (λ c. q.front ++ c ∷ []) opening in
-    let raw : q.before ≡ p.before = some_same q.before p.before (sym other.lexes ∙ ap tokens (sym text) ∙ lexed.lexes) in
-    ap (λ l. pieces l q.before) (sym text) ∙ ap (pieces (p.front ++ p.opening ∷ [])) raw
+    ap (λ l. pieces l q.before) (sym (front_text p q front opening))
+    ∙ ap (pieces (p.front ++ p.opening ∷ [])) (sym (same_before p q lexed other front opening))
 
 pub aligned_parts : (reach : Reach) (holes : Holes) (at k : ℕ) (short long : List Part) (last : List ℕ) (after : List RawToken)
     → AreWoven short last → AreWoven long last → StandFor holes at short long (solid_tokens after) → AreInsides reach holes at short long

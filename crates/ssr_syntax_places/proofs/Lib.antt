@@ -42,6 +42,7 @@ mod MeasuredParts
 mod LongNodes
 mod FilledDepth
 mod ReadAlone
+mod NamedParts
 mod Behind
 mod LongTexts
 mod Loosest

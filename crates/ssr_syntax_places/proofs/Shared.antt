@@ -41,6 +41,7 @@ pub use Rattle.ssr_syntax_places.proofs.ReadAlone.{read_alone}
 -- templates, node by node
 pub use Rattle.ssr_syntax_places.proofs.Templates.{IsName, IsOwn, IsTemplate, IsNodeTemplate, AreSpelled, core_template, arguments_template, filled_spelled, node_tokens}
 -- long texts that are read by short ones
+pub use Rattle.ssr_syntax_places.proofs.NamedParts.{named_paired}
 pub use Rattle.ssr_syntax_places.proofs.LongReading.{long_whole, long_read}
 pub use Rattle.ssr_syntax_places.proofs.FilledDepth.{long_depth}
 pub use Rattle.ssr_syntax_places.proofs.LongNodes.{long_nodes, read_nodes}

@@ -1,5 +1,5 @@
 -- Long texts that are read as short ones are, in which names stand for insides of the long ones.
-use Rattle.std.specs.Prelude.{◌≡◌, ℕ, ◌+◌, ◌<◌, nat_lt, true, false, ◌&&◌, if◌then◌else◌, ⊤, List, [], ◌∷◌, length, max, reverse, Option, Some, None, Result, Ok, Err}
+use Rattle.std.specs.Prelude.{◌≡◌, ℕ, ◌+◌, ◌<◌, ◌==◌, nat_lt, true, false, ◌&&◌, if◌then◌else◌, ⊤, List, [], ◌∷◌, length, max, reverse, Option, Some, None, Result, Ok, Err}
 use Rattle.ssr_syntax_kinds.specs.declared.kinds.SyntaxKind.{SyntaxKind}
 use Rattle.ssr_syntax_kinds.specs.declared.kinds.SyntaxKind.TheVariants as k
 use Rattle.ssr_syntax_kinds.specs.Kinds.{same_kind}
@@ -19,7 +19,7 @@ use Rattle.ssr_syntax.specs.Grammar.{grammar_of}
 use Rattle.ssr_syntax.specs.Reading.{fragment_reading_of, trimmed, FitsFragmentOf}
 use Rattle.ssr_syntax.specs.declared.syntax_error.SyntaxError.{SyntaxError}
 use Rattle.ssr_syntax.specs.declared.syntax_error.SyntaxError.TheVariants as errors
-use Rattle.ssr_syntax_places.specs.Core.{Hole, Holes, IsFilling, AreFillings, core, filled}
+use Rattle.ssr_syntax_places.specs.Core.{Hole, Holes, IsFilling, AreFillings, core, filled, is_single}
 use Rattle.ssr_syntax_places.specs.Standing.{node}
 use Rattle.ssr_syntax_places.specs.Woven.{Part, AreWoven, StandFor}
 
@@ -83,6 +83,31 @@ pub record ArePaired (reach : Reach) (holes : Holes) (short long : List Part) (l
   pub lexes : tokens last ≡ Some after
   pub stand : StandFor holes 0 short long (solid_tokens after)
   pub insides : AreInsides reach holes 0 short long
+
+-- ** Names by what they stand for.
+
+-- a name in a short text, alone between its brackets, and the inside of a long one that it stands for
+pub record IsNamed (reach : Reach) (p q : Part) (hole : Hole) : Type 0 where
+  pub front : p.front ≡ q.front
+  pub opening : p.opening ≡ q.opening
+  pub one : length p.within ≡ 1
+  pub single : is_single (solid_tokens p.within) ≡ true
+  pub tokens_are : hole.tokens ≡ solid_tokens q.within
+  pub filling : IsFilling reach hole
+  pub inside : IsInside reach hole q.inside q.within
+
+abbrev pub AreNamed : Reach → List Part → List Part → List Hole → Type 0
+AreNamed reach [] [] [] = ⊤
+AreNamed reach (p ∷ ps) (q ∷ qs) (hole ∷ holes) = IsNamed reach p q hole × AreNamed reach ps qs holes
+AreNamed reach _ _ _ = ⊥
+
+-- what the names stand for, in order; `at` is the number of the first token
+abbrev pub holes_in : ℕ → List Part → List Hole → Holes
+holes_in at [] holes number = None
+holes_in at (p ∷ ps) [] number = None
+holes_in at (p ∷ ps) (hole ∷ holes) number =
+    let place : ℕ = at + length (solid_tokens p.before) in
+    if number == place then Some hole else holes_in (place + 1) ps holes number
 
 -- ** What is read.
 

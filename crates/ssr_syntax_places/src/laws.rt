@@ -28,7 +28,7 @@ ghost use Rattle.ssr_syntax_kinds.specs.declared.fragment.Fragment.TheVariants a
 ghost use Rattle.ssr_syntax_tree.specs.Syntax.{Syntax, depth_of};
 ghost use Rattle.ssr_syntax_kinds.specs.declared.fragment.Fragment.{Fragment};
 ghost use Rattle.ssr_syntax.specs.Reading.{fragment_reading_of, trimmed, FitsFragmentOf};
-ghost use Rattle.ssr_syntax_places.specs.LongTexts.{ArePaired, HasForest, IsBehind, IsReadAlone, IsReadFilled, IsWholeOf, filled_height, unless_deep};
+ghost use Rattle.ssr_syntax_places.specs.LongTexts.{AreNamed, ArePaired, HasForest, IsBehind, IsReadAlone, IsReadFilled, IsWholeOf, filled_height, holes_in, unless_deep};
 ghost use Rattle.ssr_syntax_places.specs.PlainCore.{forest_in, is_core_tree};
 ghost use Rattle.ssr_syntax_rows.specs.Lossless.{whole_tree};
 ghost use Rattle.ssr_syntax_places.specs.Spans.{has_node_at, AreSameBytes};
@@ -209,6 +209,9 @@ pub fn readings()
 /// the tree is can be computed from the short one. Bytes of the long text that don't begin or end within an inside are a node if
 /// the same bytes of the short text are, and only then.
 pub fn long_texts()
+    ensures paired { (reach : Reach) (short long : List Part) (holes : List Hole) (last : List ℕ) (after : List RawToken) → AreWoven short last
+        → AreWoven long last → tokens last ≡ Some after → AreNamed reach short long holes
+        → ArePaired reach (holes_in 0 short holes) short long last after }
     ensures fits { (reach : Reach) (holes : Holes) (short long : List Part) (last : List ℕ) (after : List RawToken) (name text : List ℕ)
         (raw : List RawToken) (kind : SyntaxKind) (kids : Forest) → ArePaired reach holes short long last after
         → trimmed name ≡ woven short last → trimmed text ≡ woven long last → IsBehind reach name raw kind kids
