@@ -218,11 +218,10 @@ aligned_own holes at n k text (r ∷ raw) ts us e own are =
     let long : List plain.Token = pieces text raw ++ us in
     elim (is_trivia r.kind)
     as (λ b. is_trivia r.kind ≡ b
-        → k ≡ length (if b then solid_tokens raw else solid_token r raw ∷ solid_tokens raw) + n
-        → are_spelled holes at (if b then solid_tokens raw else solid_token r raw ∷ solid_tokens raw) ≡ true
-        → AreAligned holes (at + length (if b then solid_tokens raw else solid_token r raw ∷ solid_tokens raw)) n ts us
-        → AreAligned holes at k (piece ∷ short) (piece ∷ long))
-    [
+    → k ≡ length (if b then solid_tokens raw else solid_token r raw ∷ solid_tokens raw) + n
+    → are_spelled holes at (if b then solid_tokens raw else solid_token r raw ∷ solid_tokens raw) ≡ true
+    → AreAligned holes (at + length (if b then solid_tokens raw else solid_token r raw ∷ solid_tokens raw)) n ts us
+    → AreAligned holes at k (piece ∷ short) (piece ∷ long)) [
       | true ↦ λ is count kept rest.
           aligned_lead holes at k (piece ∷ []) (piece ∷ []) short long (is, tt) (is, tt) (aligned_own holes at n k text raw ts us count kept rest)
       | false ↦ λ is count kept rest.

@@ -162,12 +162,11 @@ measured_own holes e number n k at long text (r ∷ raw) ts us count own from to
     let y : long + bytes (pieces text (r ∷ raw)) ≡ (long + size) + many = omega (arith, all) in
     elim (is_trivia r.kind)
     as (λ b. is_trivia r.kind ≡ b
-        → k ≡ length (if b then solid_tokens raw else solid_token r raw ∷ solid_tokens raw) + n
-        → are_spelled holes number (if b then solid_tokens raw else solid_token r raw ∷ solid_tokens raw) ≡ true
-        → AreMeasured holes e (number + length (if b then solid_tokens raw else solid_token r raw ∷ solid_tokens raw)) n
-        (at + bytes (pieces text (r ∷ raw))) (long + bytes (pieces text (r ∷ raw))) ts us
-        → AreMeasured holes e number k at long (piece ∷ short) (piece ∷ longer))
-    [
+    → k ≡ length (if b then solid_tokens raw else solid_token r raw ∷ solid_tokens raw) + n
+    → are_spelled holes number (if b then solid_tokens raw else solid_token r raw ∷ solid_tokens raw) ≡ true
+    → AreMeasured holes e (number + length (if b then solid_tokens raw else solid_token r raw ∷ solid_tokens raw)) n
+    (at + bytes (pieces text (r ∷ raw))) (long + bytes (pieces text (r ∷ raw))) ts us
+    → AreMeasured holes e number k at long (piece ∷ short) (piece ∷ longer)) [
       | true ↦ λ is total kept rest.
           let behind : AreMeasured holes e (number + length (solid_tokens raw)) n ((at + size) + many) ((long + size) + many) ts us =
           subst (λ l. AreMeasured holes e (number + length (solid_tokens raw)) n l ((long + size) + many) ts us) x

@@ -93,7 +93,7 @@ count_past (suc n) [] few = absurd (omega (arith, few))
 count_past zero (t ∷ ts) few = omega arith
 count_past (suc n) (t ∷ ts) few =
     by_kind (λ b. suc n ≤ (if b then solid_count ts else suc (solid_count ts))
-        → suc n + solid_count (past (if b then suc n else n) ts) ≡ (if b then solid_count ts else suc (solid_count ts))) t
+    → suc n + solid_count (past (if b then suc n else n) ts) ≡ (if b then solid_count ts else suc (solid_count ts))) t
     (λ e less. count_past (suc n) ts less) (λ e less. omega (arith, count_past n ts (omega (arith, less)))) few
 
 gap_front : (n : ℕ) (ts us : List plain.Token) → n ≤ solid_count ts → gap n (ts ++ us) ≡ gap n ts
@@ -169,7 +169,7 @@ count_upto zero ts few = omega arith
 count_upto (suc n) [] few = absurd (omega (arith, few))
 count_upto (suc n) (t ∷ ts) few =
     by_kind (λ b. suc n ≤ (if b then solid_count ts else suc (solid_count ts))
-        → suc n ≤ (if b then solid_count (upto (if b then suc n else n) ts) else suc (solid_count (upto (if b then suc n else n) ts)))) t
+    → suc n ≤ (if b then solid_count (upto (if b then suc n else n) ts) else suc (solid_count (upto (if b then suc n else n) ts)))) t
     (λ e less. count_upto (suc n) ts less) (λ e less. omega (arith, count_upto n ts (omega (arith, less)))) few
 
 -- of pieces that begin with a solid one
@@ -210,17 +210,17 @@ split n [] some few = absurd (omega (arith, some, few))
 split n (t ∷ ts) some few =
     by_kind (λ b. Split n (t ∷ ts)) t
     (λ e.
-        let same : solid_count (t ∷ ts) ≡ solid_count ts = ap (λ b. if b then solid_count ts else suc (solid_count ts)) e in
-        let rest = split n ts some (omega (arith, few, same)) in
-        record {
-          lead = t ∷ rest.lead;
-          inner = rest.inner;
-          trail = rest.trail;
-          all = ap (λ l. t ∷ l) rest.all;
-          leads = (e, rest.leads);
-          run = rest.run;
-          trails = λ count. rest.trails (count ∙ same);
-        })
+    let same : solid_count (t ∷ ts) ≡ solid_count ts = ap (λ b. if b then solid_count ts else suc (solid_count ts)) e in
+    let rest = split n ts some (omega (arith, few, same)) in
+    record {
+      lead = t ∷ rest.lead;
+      inner = rest.inner;
+      trail = rest.trail;
+      all = ap (λ l. t ∷ l) rest.all;
+      leads = (e, rest.leads);
+      run = rest.run;
+      trails = λ count. rest.trails (count ∙ same);
+    })
     (λ e. record {
       lead = [];
       inner = upto n (t ∷ ts);

@@ -65,6 +65,7 @@ number_single dots cs = choice (dots == 1) where
   float : (b : Bool) → IsSingle (if b then k.FLOAT_NUMBER else k.INT_NUMBER)
   float true = refl
   float false = refl
+
   choice : (b : Bool) → IsSingle (if b then (let taken : Taken = (k.INT_NUMBER, past is_digit cs) in taken)
       else (let taken : Taken = (number_kind (whole_run cs), (with_sign (with_point (whole_run cs))).1) in taken)).0
   choice true = refl

@@ -231,4 +231,4 @@ span_tree at from to kind kids x ts n e =
     span_before at from to (gap m ts) (branch kind below rest)
     ∙ ap (λ l. (starts == from && l == to) || (has_span starts from to below || has_span l from to rest)) ends
     ∙ ap (λ l. (at + bytes (gap l ts) == from && at + bytes (upto l ts) == to)
-        || (has_span (at + bytes (gap l ts)) from to (lossless kids (behind_gap l ts)) || has_span (at + bytes (upto l ts)) from to (lossless x (past l ts)))) (sym e)
+    || (has_span (at + bytes (gap l ts)) from to (lossless kids (behind_gap l ts)) || has_span (at + bytes (upto l ts)) from to (lossless x (past l ts)))) (sym e)

@@ -155,7 +155,7 @@ record AreAlike (holes : Holes) (e : Ends) (number at long : ℕ) (kind : Syntax
 own_alike : (holes : Holes) (e : Ends) (number n at long : ℕ) (kind : SyntaxKind) (kids : Forest) (ts us : List plain.Token) → length (spell kids) ≤ n
     → AreMeasured holes e number n at long ts us
     → ((a b : ℕ) (vs ws : List plain.Token) → IsTemplate holes number kids → AreMeasured holes e number n a b vs ws
-        → has_span a e.from e.to (lossless kids vs) ≡ has_span b e.long_from e.long_to (lossless (filled holes number kids) ws))
+    → has_span a e.from e.to (lossless kids vs) ≡ has_span b e.long_from e.long_to (lossless (filled holes number kids) ws))
     → IsOwn holes number kind kids (IsTemplate holes number kids) → AreAlike holes e number at long kind kids ts us
 own_alike holes e number n at long kind kids ts us few are inner own =
     let c : ℕ = length (spell kids) in
@@ -202,7 +202,7 @@ name_alike holes e number (suc n) at long kind kids ts us few are name =
 node_alike : (holes : Holes) (e : Ends) (number n at long : ℕ) (kind : SyntaxKind) (kids : Forest) (ts us : List plain.Token) → length (spell kids) ≤ n
     → AreMeasured holes e number n at long ts us
     → ((a b : ℕ) (vs ws : List plain.Token) → IsTemplate holes number kids → AreMeasured holes e number n a b vs ws
-        → has_span a e.from e.to (lossless kids vs) ≡ has_span b e.long_from e.long_to (lossless (filled holes number kids) ws))
+    → has_span a e.from e.to (lossless kids vs) ≡ has_span b e.long_from e.long_to (lossless (filled holes number kids) ws))
     → IsNodeTemplate holes number kind kids → AreAlike holes e number at long kind kids ts us
 node_alike holes e number n at long kind kids ts us few are inner (inl name) = name_alike holes e number n at long kind kids ts us few are name
 node_alike holes e number n at long kind kids ts us few are inner (inr own) = own_alike holes e number n at long kind kids ts us few are inner own

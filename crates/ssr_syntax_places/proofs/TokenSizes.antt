@@ -85,8 +85,7 @@ two_sized kind ts (Some two) single is =
 pub all_sized : (raw : List RawToken) → AllSingle raw → AreSized (solid_tokens raw)
 all_sized [] all = tt
 all_sized (t ∷ ts) all =
-    elim (is_trivia t.kind) as (λ b. AreSized (if b then solid_tokens ts else solid_token t ts ∷ solid_tokens ts))
-    [
+    elim (is_trivia t.kind) as (λ b. AreSized (if b then solid_tokens ts else solid_token t ts ∷ solid_tokens ts)) [
       | true ↦ all_sized ts all.1
       | false ↦ (two_sized t.kind ts (lengthened t.kind t.joint ts) all.0 (lengthened_longer t.kind t.joint ts), all_sized ts all.1)
     ]
