@@ -1,5 +1,5 @@
 -- Texts of parts are paired by what the names of the short one stand for, in order.
-use Rattle.std.proofs.Common.{◌≡◌, ℕ, zero, suc, ◌+◌, ◌<◌, ◌≤◌, ◌==◌, Bool, true, false, ◌&&◌, if◌then◌else◌, List, [], ◌∷◌, ◌++◌, length, Some, None, inl, inr, refl, sym, ap, subst, ◌∙◌, arith}
+use Rattle.std.proofs.Common.{◌≡◌, ℕ, ◌+◌, ◌<◌, ◌≤◌, ◌==◌, Bool, true, false, if◌then◌else◌, List, [], ◌∷◌, length, Some, None, inl, inr, refl, ap, subst, ◌∙◌, arith}
 use Rattle.std.specs.Prelude.{Option}
 use Rattle.std.proofs.lemmas.Bool.{and_from, cases_Bool, eq-eqb, eqb-true}
 use Rattle.ssr_syntax_kinds.specs.declared.reach.Reach.{Reach}
@@ -7,8 +7,8 @@ use Rattle.ssr_syntax_lex.specs.Tokens.{tokens}
 use Rattle.ssr_syntax_lex.specs.declared.tokens.RawToken.{RawToken}
 use Rattle.ssr_syntax_forms.specs.declared.tokens.Token.{Token}
 use Rattle.ssr_syntax_rows.specs.Solid.{solid_tokens}
-use Rattle.ssr_syntax_places.specs.Core.{Hole, Holes, IsFilling, AreFillings, is_no_hole, are_spelled, is_single}
-use Rattle.ssr_syntax_places.specs.LongTexts.{AreInsides, AreNamed, ArePaired, IsNamed, holes_in}
+use Rattle.ssr_syntax_places.specs.Core.{Hole, Holes, IsFilling, AreFillings, is_no_hole, are_spelled}
+use Rattle.ssr_syntax_places.specs.LongTexts.{AreInsides, AreNamed, ArePaired, holes_in}
 use Rattle.ssr_syntax_places.specs.Woven.{Part, AreWoven, StandFor}
 use Rattle.ssr_syntax_places.proofs.AlignedParts.{same_before}
 use Rattle.ssr_syntax_places.proofs.Insides.{some_same}
