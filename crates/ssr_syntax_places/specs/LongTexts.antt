@@ -64,8 +64,9 @@ pub record IsReadAlone (reach : Reach) (text : List ℕ) (syntax : Syntax) : Typ
 -- The same parts with other insides. In the short text each is a name alone, and in the long one what the name stands for.
 -- `at` is the number of the first token.
 abbrev pub AreInsides : Reach → Holes → ℕ → List Part → List Part → Type 0
-AreInsides reach holes at [] qs = ⊤
-AreInsides reach holes at (p ∷ ps) [] = ⊤
+AreInsides reach holes at [] [] = ⊤
+AreInsides reach holes at [] (q ∷ qs) = ⊥
+AreInsides reach holes at (p ∷ ps) [] = ⊥
 AreInsides reach holes at (p ∷ ps) (q ∷ qs) =
     (hole : Hole)
     × (p.front ≡ q.front)
