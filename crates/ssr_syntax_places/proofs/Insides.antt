@@ -87,7 +87,7 @@ same_raw : (text : List ℕ) (a b : List RawToken) → tokens text ≡ Some a �
 same_raw text a b e d = some_same a b (sym e ∙ d)
 
 -- where the inside ends, a token begins behind the front too
-place_behind : (front : List ℕ) (opening n : ℕ) (raw before rest : List RawToken) → IsLexed (front ++ opening ∷ []) before
+pub place_behind : (front : List ℕ) (opening n : ℕ) (raw before rest : List RawToken) → IsLexed (front ++ opening ∷ []) before
     → raw ≡ side_by_side (length front + 1) before rest → has_token_at ((length front + 1) + n) raw ≡ true → has_token_at n rest ≡ true
 place_behind front opening n raw before rest front_is e at =
     let m : ℕ = length (front ++ opening ∷ []) in

@@ -22,6 +22,7 @@ mod CoreStands
 mod Fillings
 mod Insides
 mod Woven
+mod Cuts
 mod Misnamed
 mod Pieces
 mod Templates

@@ -29,6 +29,7 @@ pub use Rattle.ssr_syntax_places.proofs.Delimited.{blocks_owned}
 pub use Rattle.ssr_syntax_places.proofs.Blocks.{blocks_replaced, block_put}
 -- the insides of brackets in a text
 pub use Rattle.ssr_syntax_places.proofs.Insides.{put_inside, cut_inside}
+pub use Rattle.ssr_syntax_places.proofs.Cuts.{many_cut, woven_replaced}
 pub use Rattle.ssr_syntax_places.proofs.Woven.{woven_lexes, woven_filled}
 pub use Rattle.ssr_syntax_places.proofs.LongTexts.{long_fits}
 -- ranges and assignments

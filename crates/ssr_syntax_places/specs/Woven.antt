@@ -1,7 +1,8 @@
 -- Texts with several insides, each behind a character that opens it and in front of one that closes it.
 use Rattle.std.specs.Prelude.{◌≡◌, ℕ, ◌+◌, Bool, true, false, ⊤, List, [], ◌∷◌, ◌++◌, length, Some}
 use Rattle.std.specs.Str.{IsUtf8}
-use Rattle.ssr_syntax_lex.specs.Seams.{is_seam}
+use Rattle.ssr_syntax_lex.specs.Seams.{has_token_at, is_seam}
+use Rattle.ssr_syntax_lex.specs.Tokens.{tokens}
 use Rattle.ssr_syntax_lex.specs.declared.tokens.RawToken.{RawToken}
 use Rattle.ssr_syntax_tree.specs.Syntax as plain
 use Rattle.ssr_syntax_forms.specs.declared.tokens.Token.{Token}
@@ -56,3 +57,44 @@ StandFor holes at (p ∷ ps) (q ∷ qs) after =
     × (holes (at + length (solid_tokens p.before)) ≡ Some hole)
     × (hole.tokens ≡ solid_tokens q.within)
     × StandFor holes ((at + length (solid_tokens p.before)) + 1) ps qs after
+
+-- ** Cuts.
+
+-- the texts of a part
+pub record Cut : Type 0 where
+  pub front : List ℕ
+  pub opening : ℕ
+  pub inside : List ℕ
+
+abbrev pub cut_text : List Cut → List ℕ → List ℕ
+cut_text [] last = last
+cut_text (c ∷ cs) last = with_inside c.front c.opening c.inside (cut_text cs last)
+
+abbrev pub cuts_of : List Part → List Cut
+cuts_of [] = []
+cuts_of (p ∷ ps) = record { front = p.front; opening = p.opening; inside = p.inside } ∷ cuts_of ps
+
+-- Each inside of a text stands between two brackets, commas or `;`, and both are tokens of the text. `at` bytes stand in front.
+abbrev pub AreCuts : ℕ → List RawToken → List Cut → List ℕ → Type 0
+AreCuts at raw [] last = ⊤
+AreCuts at raw (c ∷ cs) last =
+    IsUtf8 c.front × IsUtf8 c.inside × (is_seam c.opening ≡ true) × (begins_seam (cut_text cs last) ≡ true)
+    × (has_token_at (at + length c.front) raw ≡ true)
+    × (has_token_at (at + ((length c.front + 1) + length c.inside)) raw ≡ true)
+    × AreCuts (at + ((length c.front + 1) + length c.inside)) raw cs last
+
+-- the parts of a text that is cut there
+pub record AreCut (cs : List Cut) (last : List ℕ) : Type 0 where
+  pub parts : List Part
+  pub after : List RawToken
+  pub texts : cuts_of parts ≡ cs
+  pub are : AreWoven parts last
+  pub lexes : tokens last ≡ Some after
+
+-- the same parts with other insides, each lexed by itself
+abbrev pub AreReplaced : List Part → List Part → Type 0
+AreReplaced [] [] = ⊤
+AreReplaced [] (q ∷ qs) = ⊥
+AreReplaced (p ∷ ps) [] = ⊥
+AreReplaced (p ∷ ps) (q ∷ qs) =
+    (p.front ≡ q.front) × (p.opening ≡ q.opening) × (p.before ≡ q.before) × IsLexed q.inside q.within × AreReplaced ps qs

@@ -13,7 +13,7 @@ ghost use Rattle.ssr_syntax_types.specs.declared.goals.ExprPlace.TheVariants.{An
 ghost use Rattle.ssr_syntax_types.specs.declared.goals.Goal.TheVariants.{Expr, StmtList};
 ghost use Rattle.ssr_syntax_lex.specs.declared.tokens.RawToken.{RawToken};
 ghost use Rattle.ssr_syntax_rows.specs.Solid.{pieces, solid_tokens};
-ghost use Rattle.ssr_syntax_places.specs.Woven.{Part, AreWoven, StandFor, pieces_parts, solid_parts, woven};
+ghost use Rattle.ssr_syntax_places.specs.Woven.{Part, Cut, AreWoven, AreCut, AreCuts, AreReplaced, StandFor, cut_text, pieces_parts, solid_parts, woven};
 ghost use Rattle.ssr_syntax_types.specs.Literals.{literals};
 ghost use Rattle.ssr_syntax_types.specs.Types.{ampersands};
 ghost use Rattle.ssr_syntax_exprs.specs.Expressions.{assignments, operators, prefix_operators, ranks};
@@ -173,10 +173,13 @@ pub fn insides()
         → tokens (closing ∷ behind) ≡ Some after → HasParts front opening inside (closing ∷ behind) before within after }
 {}
 
-/// A text with several insides, each behind a character that opens it and in front of one that closes it, has the tokens of
-/// its parts, if each is lexed by itself. With a name in the place of each inside they are those of a template, whose filled
-/// tokens are those of the text. So the text fits, with the filled template as its tree, if the template is core.
+/// A text with several insides, each behind a character that opens it and in front of one that closes it, is cut into parts,
+/// and other insides may stand there. It has the tokens of its parts, if each is lexed by itself. With a name in the place of
+/// each inside they are those of a template, whose filled tokens are those of the text. So the text fits, with the filled
+/// template as its tree, if the template is core.
 pub fn many_insides()
+    ensures cut { (cs : List Cut) (last : List ℕ) (raw : List RawToken) → tokens (cut_text cs last) ≡ Some raw → AreCuts 0 raw cs last → AreCut cs last }
+    ensures replaced { (short long : List Part) (last : List ℕ) → AreWoven short last → AreReplaced short long → AreWoven long last }
     ensures lexes { (parts : List Part) (last : List ℕ) (after : List RawToken) → AreWoven parts last → tokens last ≡ Some after
         → (raw : List RawToken) × (tokens (woven parts last) ≡ Some raw) × (solid_tokens raw ≡ solid_parts parts (solid_tokens after))
         × (pieces (woven parts last) raw ≡ pieces_parts parts (pieces last after)) }
