@@ -17,7 +17,7 @@ use Rattle.ssr_syntax_types.specs.Types.{ampersands}
 use Rattle.ssr_syntax_rows.specs.Lossless.{gap, behind_gap, upto, past, before, behind, lossless}
 use Rattle.ssr_syntax_rows.proofs.Shared.{AreTaken, IsTaken}
 use Rattle.ssr_syntax_places.specs.Core.{Holes, is_no_hole, are_spelled, is_leaf, is_ampersand, is_single}
-use Rattle.ssr_syntax_places.specs.PlainCore.{of_two, of_three, size_of_kind, tokens_like, forest_in}
+use Rattle.ssr_syntax_places.specs.PlainCore.{of_two, of_three, size_of_kind, solid_size, tokens_like, forest_in}
 use Rattle.ssr_syntax_places.specs.Standing.{is_token}
 use Rattle.ssr_syntax_places.proofs.Misnamed.{AllTrivia}
 use Rattle.ssr_syntax_places.proofs.PartLeaves.{any_part, other_part, IsWholeLeaf, IsPartLeaf, HasLeaves, HasParts}
@@ -76,6 +76,26 @@ forest_like (tree kind kids x) ts are =
     forest_before (gap n ts) (plain.branch kind (lossless kids (behind_gap n ts)) (lossless x (past n ts))) (gap_all n ts)
     ∙ ap (λ z. tree kind z (forest_in (lossless x (past n ts)))) (forest_like kids (behind_gap n ts) are.0)
     ∙ ap (λ z. tree kind (like kids) z) (forest_like x (past n ts) are.1)
+
+-- ** How many tokens they are.
+
+size_append : (ts us : List plain.Token) → solid_size (ts ++ us) ≡ solid_size ts + solid_size us
+size_append [] us = omega arith
+size_append (t ∷ ts) us = omega (arith, size_append ts us)
+
+pub forest_size : (z : plain.Forest) → length (spell (forest_in z)) ≡ solid_size (plain.tokens_in z)
+forest_size plain.nothing = refl
+forest_size (plain.leaf t x) =
+    elim (is_trivia t.kind)
+    as (λ b. length (spell (if b then forest_in x else leaf t.kind (tokens_like t.kind) (forest_in x))) ≡ (if b then 0 else size_of_kind t.kind) + solid_size (plain.tokens_in x)) [
+      | true ↦ let rest = forest_size x in omega (arith, rest)
+      | false ↦
+          let rest = forest_size x in
+          omega (arith, rest, length-append (tokens_like t.kind) (spell (forest_in x)), like_length t.kind)
+    ]
+forest_size (plain.branch kind below x) =
+    length-append (spell (forest_in below)) (spell (forest_in x))
+    ∙ omega (arith, forest_size below, forest_size x, size_append (plain.tokens_in below) (plain.tokens_in x))
 
 -- ** What is known of the forest behind a tree.
 

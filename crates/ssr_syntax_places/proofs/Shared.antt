@@ -37,6 +37,7 @@ pub use Rattle.ssr_syntax_places.proofs.Loosest.{range_anywhere, inclusive_anywh
 -- what is read of a text, the forest behind it, and which of these are core
 pub use Rattle.ssr_syntax_places.proofs.Behind.{forest_behind}
 pub use Rattle.ssr_syntax_places.proofs.Reading.{fragment_told}
+pub use Rattle.ssr_syntax_places.proofs.LikeForests.{forest_size}
 pub use Rattle.ssr_syntax_places.proofs.PlainCore.{tree_core}
 pub use Rattle.ssr_syntax_places.proofs.ReadAlone.{read_alone}
 -- templates, node by node

@@ -1,5 +1,5 @@
 -- The forest behind a plain tree, told by the kinds of its tokens.
-use Rattle.std.specs.Prelude.{ℕ, Bool, ◌-◌, if◌then◌else◌, List, ◌∷◌, [], replicate}
+use Rattle.std.specs.Prelude.{ℕ, Bool, ◌+◌, ◌-◌, if◌then◌else◌, List, ◌∷◌, [], replicate}
 use Rattle.ssr_syntax_kinds.specs.Kinds.{is_trivia}
 use Rattle.ssr_syntax_kinds.specs.declared.kinds.SyntaxKind.{SyntaxKind}
 use Rattle.ssr_syntax_kinds.specs.declared.kinds.SyntaxKind.TheVariants as k
@@ -27,6 +27,11 @@ abbrev pub tokens_like : SyntaxKind → List Token
 tokens_like kind =
     let token : Token = record { kind = kind; joined = kind; size = size_of_kind kind } in
     token ∷ replicate (size_of_kind kind - 1) token
+
+-- how many tokens the grammar reads of these: so many are joined to those that are neither white space nor comments
+abbrev pub solid_size : List plain.Token → ℕ
+solid_size [] = 0
+solid_size (t ∷ ts) = (if is_trivia t.kind then 0 else size_of_kind t.kind) + solid_size ts
 
 -- the siblings without white space and comments, each token with others of its kind
 abbrev pub forest_in : plain.Forest → Forest

@@ -25,11 +25,12 @@ ghost use Rattle.ssr_syntax_lex.specs.Seams.{is_seam, has_token_at};
 ghost use Rattle.ssr_syntax_lex.specs.Tokens.{tokens};
 ghost use Rattle.ssr_syntax_places.specs.Insides.{with_inside, IsLexed, HasParts, AreParts};
 ghost use Rattle.ssr_syntax_kinds.specs.declared.fragment.Fragment.TheVariants as fragments;
+ghost use Rattle.ssr_syntax_tree.specs.Syntax as plain;
 ghost use Rattle.ssr_syntax_tree.specs.Syntax.{Syntax, depth_of};
 ghost use Rattle.ssr_syntax_kinds.specs.declared.fragment.Fragment.{Fragment};
 ghost use Rattle.ssr_syntax.specs.Reading.{fragment_reading_of, trimmed, FitsFragmentOf};
 ghost use Rattle.ssr_syntax_places.specs.LongTexts.{AreNamed, ArePaired, HasForest, IsBehind, IsReadAlone, IsReadFilled, IsWholeOf, filled_height, holes_in, unless_deep};
-ghost use Rattle.ssr_syntax_places.specs.PlainCore.{forest_in, is_core_tree};
+ghost use Rattle.ssr_syntax_places.specs.PlainCore.{forest_in, is_core_tree, solid_size};
 ghost use Rattle.ssr_syntax_rows.specs.Lossless.{whole_tree};
 ghost use Rattle.ssr_syntax_places.specs.Spans.{has_node_at, AreSameBytes};
 ghost use Rattle.ssr_syntax_places.specs.Placing.{begins_open, blocks, is_asked, Puts};
@@ -193,8 +194,8 @@ pub fn many_insides()
 {}
 
 /// What is read of a text has a forest behind it, which fits the text's tokens. What fits is read, unless it is too deep.
-/// The forest is core if the kinds of the tree's tokens say so: a walk over the tree decides. A text that is read alone is what
-/// a name may stand for.
+/// The forest is core if the kinds of the tree's tokens say so: a walk over the tree decides, and counts tokens as the forest
+/// does. A text that is read alone is what a name may stand for.
 pub fn readings()
     ensures behind { (reach : Reach) (text : List ℕ) (syntax : Syntax) → IsUtf8 (trimmed text)
         → fragment_reading_of reach fragments.Expr text ≡ Ok syntax → HasForest reach text syntax }
@@ -203,6 +204,7 @@ pub fn readings()
     ensures core { (reach : Reach) (holes : Holes) (callable : Bool) (n : ℕ) (text : List ℕ) (raw : List RawToken) (kind : SyntaxKind) (kids : Forest)
         → IsBehind reach text raw kind kids → IsTrue (is_core_tree holes callable n (whole_tree kind kids (pieces (trimmed text) raw)))
         → IsTrue (core holes callable n 0 kind kids) }
+    ensures counted { (z : plain.Forest) → length (spell (forest_in z)) ≡ solid_size (plain.tokens_in z) }
     ensures alone { (reach : Reach) (text : List ℕ) (syntax : Syntax) → IsUtf8 text → trimmed text ≡ text → 0 < length text
         → FitsFragmentOf reach fragments.Expr text syntax → IsReadAlone reach text syntax }
 {}
