@@ -1,0 +1,1 @@
+-- What the crates above may cite. The other files of lemmas here are this crate's own.

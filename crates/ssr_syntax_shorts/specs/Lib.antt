@@ -1,0 +1,3 @@
+pub mod Shorts
+pub mod Held
+pub mod Told

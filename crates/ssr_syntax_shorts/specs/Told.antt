@@ -1,0 +1,37 @@
+-- What the tree of a short text has to be for the long text to be told by it.
+use Rattle.std.specs.Prelude.{◌≡◌, ℕ, ◌+◌, ◌-◌, ◌≤◌, nat_lt, ◌&&◌, not, Bool, true, false, List, map, All, count_by, Some}
+use Rattle.ssr_syntax_kinds.specs.Kinds.{is_trivia}
+use Rattle.ssr_syntax_lex.specs.Seams.{has_token_at}
+use Rattle.ssr_syntax_lex.specs.Tokens.{tokens}
+use Rattle.ssr_syntax_lex.specs.declared.tokens.RawToken.{RawToken}
+use Rattle.ssr_syntax_tree.specs.Syntax.{Syntax, depth_of, most_deep}
+use Rattle.ssr_syntax_tree.specs.declared.number.TokenNo.{TokenNo}
+use Rattle.ssr_syntax_places.specs.Core.{Holes}
+use Rattle.ssr_syntax_places.specs.PlainCore.{is_core_tree}
+use Rattle.ssr_syntax_shorts.specs.Held.{solid_number, AreHeld}
+use Rattle.ssr_syntax_shorts.specs.Shorts.{ShortText, ShortRead}
+use Rattle.ssr_syntax_shorts.specs.declared.names.Name.{Name}
+
+-- the characters beside a name are tokens of the text
+abbrev pub IsCut : List RawToken → Name → Type 0
+IsCut raw name = (has_token_at (name.at - 1) raw ≡ true) × (has_token_at (name.at + 1) raw ≡ true)
+
+-- how many tokens begin in front of a byte, without white space and comments
+abbrev pub solid_before : ℕ → List RawToken → ℕ
+solid_before byte raw = count_by (λ t. not (is_trivia t.kind) && nat_lt t.range.start byte) raw
+
+-- the names are tokens of a tree, with the numbers that they have among the raw tokens
+pub record AreTokens (syntax : Syntax) (raw : List RawToken) (names : List Name) (numbers : List TokenNo) : Type 0 where
+  pub cuts : All (IsCut raw) names
+  pub same : map (λ t. solid_number syntax t.0) numbers ≡ map (λ name. solid_before name.at raw) names
+
+-- The tree is core, with names in parentheses that are tokens, and the long text's tree isn't too deep.
+pub record IsTold (short : ShortText) (read : ShortRead) : Type 0 where
+  pub names_are : read.names ≡ short.names
+  pub raw : List RawToken
+  pub lexes : tokens short.text ≡ Some raw
+  pub numbers : List TokenNo
+  pub are : AreTokens read.tree raw short.names numbers
+  pub is_core : (holes : Holes) → AreHeld read.tree numbers holes → is_core_tree holes false 12 read.tree ≡ true
+  pub deep : depth_of read.tree + short.depth ≤ read.depth
+  pub shallow : read.depth ≤ most_deep
