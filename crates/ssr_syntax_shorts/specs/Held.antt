@@ -17,4 +17,4 @@ solid_number syntax t = solid_size (take t (tokens_of syntax))
 
 -- these tokens stand for something, and no others
 abbrev pub AreHeld : Syntax → List TokenNo → Holes → Type 0
-AreHeld syntax names holes = (n : ℕ) → is_no_hole (holes n) ≡ not (list_any (λ t. solid_number syntax t.0 == n) names)
+AreHeld syntax names holes = (n : ℕ) → is_no_hole (holes n) ≡ not (list_any (λ t. n == solid_number syntax t.0) names)

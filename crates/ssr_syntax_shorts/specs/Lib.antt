@@ -1,3 +1,4 @@
 pub mod Shorts
 pub mod Held
 pub mod Told
+pub mod ShortsCode

@@ -37,8 +37,11 @@ pub struct ShortTree<'a> {
 
 impl<'a> Model for ShortTree<'a> {
     ghost use Rattle.ssr_syntax_shorts.specs.Shorts.{ShortRead};
+    ghost use Rattle.ssr_syntax_shorts.specs.ShortsCode.{read_code};
 
     ghost Value = { ShortRead };
+
+    ghost coded = { read_code };
 
     ghost view = { λ read. record { tree = read.tree; names = read.names.now; depth = read.depth; bytes = read.bytes } };
 }
@@ -85,9 +88,10 @@ fn is_node(tree: &Tree, from: usize, to: usize) -> bool
 
 /// Whether no white space stands around a text.
 fn is_alone(text: &str) -> bool
-    ensures { IsTrue result → trimmed text.now ≡ text.now }
+    ensures alone { IsTrue result → trimmed text.now ≡ text.now }
+    ensures front { IsTrue result → trimmed_front text.now ≡ 0 }
 {
-    text.trim().len() == text.len()
+    text.trim_start().len() == text.len() && text.trim().len() == text.len()
 }
 
 /// At least as deep as all nodes of a tree.

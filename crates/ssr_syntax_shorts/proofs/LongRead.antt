@@ -1,0 +1,163 @@
+-- What is read of a short text tells what is read of the long one.
+use Rattle.std.proofs.Common.{◌≡◌, ℕ, ◌+◌, ◌<◌, ◌≤◌, ◌^◌, ◌==◌, nat_lt, not, Bool, true, false, if◌then◌else◌, List, [], ◌∷◌, length, map, Some, None, refl, sym, ap, subst, ◌∙◌, arith}
+use Rattle.std.specs.Prelude.{All, Option, Result, Ok, Err, max}
+use Rattle.std.specs.List.{list_any}
+use Rattle.std.specs.Str.{IsUtf8}
+use Rattle.std.proofs.lemmas.Bool.Decides.{nat_tests}
+use Rattle.ssr_syntax_kinds.specs.Kinds.{is_trivia, same_kind}
+use Rattle.ssr_syntax_kinds.specs.declared.fragment.Fragment.TheVariants as fragments
+use Rattle.ssr_syntax_kinds.specs.declared.kinds.SyntaxKind.{SyntaxKind}
+use Rattle.ssr_syntax_kinds.specs.declared.kinds.SyntaxKind.TheVariants as k
+use Rattle.ssr_syntax_kinds.specs.declared.reach.Reach.{Reach}
+use Rattle.ssr_syntax_lex.specs.Tokens.{tokens}
+use Rattle.ssr_syntax_lex.specs.declared.tokens.RawToken.{RawToken}
+use Rattle.ssr_syntax_tree.specs.Syntax as plain
+use Rattle.ssr_syntax_tree.specs.Syntax.{Syntax, depth_of, most_deep}
+use Rattle.ssr_syntax_tree.specs.declared.number.TokenNo.{TokenNo}
+use Rattle.ssr_syntax_forms.specs.Trees.{Forest, done, leaf, tree, height, spell}
+use Rattle.ssr_syntax.specs.Reading.{fragment_reading_of, trimmed, trimmed_front}
+use Rattle.ssr_syntax_places.specs.Core.{Hole, Holes, is_no_hole}
+use Rattle.ssr_syntax_places.specs.Insides.{with_inside}
+use Rattle.ssr_syntax_places.specs.LongTexts.{ArePaired, IsReadFilled, filled_height, path_height, holes_in, unless_deep}
+use Rattle.ssr_syntax_places.specs.PlainCore.{forest_in, is_core_tree, tokens_like}
+use Rattle.ssr_syntax_places.specs.Spans.{has_node_at}
+use Rattle.ssr_syntax_places.specs.Standing.{node}
+use Rattle.ssr_syntax_places.specs.Woven.{Part, AreCut, cut_text, cuts_of, woven, AreWoven}
+use Rattle.ssr_syntax_places.proofs.Shared.{many_cut, woven_replaced, named_paired, long_read, long_depth, read_nodes}
+use Rattle.ssr_syntax_shorts.specs.Held.{solid_number, AreHeld}
+use Rattle.ssr_syntax_shorts.specs.Shorts.{Stretch, ShortText, ShortRead, short_text, long_text, names_from, AreStretches, IsShort, IsOutside, IsReadOf, long_place}
+use Rattle.ssr_syntax_shorts.specs.Told.{AreTokens, IsCut, IsTold, solid_before}
+use Rattle.ssr_syntax_shorts.specs.declared.names.Name.{Name}
+use Rattle.ssr_syntax_shorts.proofs.Numbers.{any_mapped, names_numbered, numbers_held, numbers_of}
+use Rattle.ssr_syntax_shorts.proofs.PutNames.{ArePut, cuts_are, cuts_from, cuts_spell, holes_low, put}
+use Rattle.ssr_syntax_shorts.proofs.SamePlaces.{same_bytes}
+
+-- ** How deep the long tree is.
+
+abbrev AreLowHoles : ℕ → Holes → Type 0
+AreLowHoles d holes = (number : ℕ) (hole : Hole) → holes number ≡ Some hole → height hole.tree ≤ 1 + d
+
+path_low : (d : ℕ) (o : Option Hole) (kids : Forest) → ((hole : Hole) → o ≡ Some hole → height hole.tree ≤ 1 + d) → path_height o kids ≤ (1 + height kids) + d
+path_low d None kids low = omega arith
+path_low d (Some hole) kids low = omega (arith, low hole refl)
+
+either_low : (b : Bool) (x y n : ℕ) → x ≤ n → y ≤ n → (if b then x else y) ≤ n
+either_low true x y n h g = h
+either_low false x y n h g = g
+
+filled_low : (holes : Holes) (d : ℕ) → AreLowHoles d holes → (at : ℕ) (z : Forest) → filled_height holes at z ≤ height z + d
+filled_low holes d low at done = omega arith
+filled_low holes d low at (leaf kind us x) = filled_low holes d low (at + length us) x
+filled_low holes d low at (tree kind kids x) =
+    let below = filled_low holes d low at kids in
+    let rest = filled_low holes d low (at + length (spell kids)) x in
+    let here : (if same_kind kind k.PATH_EXPR then path_height (holes at) kids else 1 + filled_height holes at kids) ≤ (1 + height kids) + d =
+    either_low (same_kind kind k.PATH_EXPR) (path_height (holes at) kids) (1 + filled_height holes at kids) ((1 + height kids) + d)
+    (path_low d (holes at) kids (low at)) (omega (arith, below)) in
+    omega (arith, here, rest)
+
+forest_low : (z : plain.Forest) → height (forest_in z) ≤ plain.height z
+forest_low plain.nothing = omega arith
+forest_low (plain.leaf token x) = either (is_trivia token.kind) where
+  either : (b : Bool) → height (if b then forest_in x else leaf token.kind (tokens_like token.kind) (forest_in x)) ≤ plain.height x
+  either true = forest_low x
+  either false = forest_low x
+forest_low (plain.branch kind below x) = let inner = forest_low below in let rest = forest_low x in omega (arith, inner, rest)
+
+long_low : (reach : Reach) (holes : Holes) (d : ℕ) (name text : List ℕ) (short : Syntax) (read : IsReadFilled reach holes name text short)
+    → AreLowHoles d holes → depth_of read.long ≤ depth_of short + d
+long_low reach holes d name text short read low =
+    let z : Forest = forest_in short.children in
+    let deep : 1 + depth_of read.long ≡ filled_height holes 0 (node short.kind z) = long_depth reach holes name text short read in
+    let bound : filled_height holes 0 (node short.kind z) ≤ height (node short.kind z) + d = filled_low holes d low 0 (node short.kind z) in
+    let own : height (node short.kind z) ≡ max (1 + height z) 0 = refl in
+    omega (arith, deep, bound, own, forest_low short.children)
+
+shallow_read : (syntax : Syntax) → depth_of syntax ≤ most_deep → unless_deep syntax ≡ Ok syntax
+shallow_read syntax le =
+    let is : nat_lt most_deep (depth_of syntax) ≡ false = grind (arith, nat_tests, le) in
+    ap (λ b. if b then Err _ else Ok syntax) is
+
+-- ** Which tokens stand for something.
+
+tokens_held : (syntax : Syntax) (numbers : List TokenNo) (holes : Holes) (ms : List ℕ)
+    → ((n : ℕ) → is_no_hole (holes n) ≡ not (list_any (λ m. n == m) ms)) → map (λ (t : TokenNo). solid_number syntax t.0) numbers ≡ ms → AreHeld syntax numbers holes
+tokens_held syntax numbers holes ms held same n =
+    held n ∙ ap (λ l. not (list_any (λ m. n == m) l)) (sym same) ∙ ap not (any_mapped (λ t. solid_number syntax t.0) n numbers)
+
+-- ** What is read.
+
+-- the parts of both texts
+record HasParts (reach : Reach) (short : ShortText) (long : List ℕ) (raw : List RawToken) (is : IsShort reach short long) : Type 0 where
+  pub cut : AreCut (cuts_from is.stretches) is.last
+  pub put_is : ArePut reach short.depth cut.parts is.stretches is.last
+  pub paired : ArePaired reach (holes_in 0 cut.parts put_is.holes) cut.parts put_is.long is.last cut.after
+  pub short_is : short.text ≡ woven cut.parts is.last
+  pub long_is : long ≡ woven put_is.long is.last
+
+woven_text : (ps : List Part) (last : List ℕ) → woven ps last ≡ cut_text (cuts_of ps) last
+woven_text [] last = refl
+woven_text (p ∷ ps) last = ap (with_inside p.front p.opening p.inside) (woven_text ps last)
+
+parts_of : (reach : Reach) (short : ShortText) (long : List ℕ) (read : ShortRead) (is : IsShort reach short long) (told : IsTold short read)
+    → HasParts reach short long told.raw is
+parts_of reach short long read is told =
+    let ss : List Stretch = is.stretches in
+    let cuts = cuts_are reach short.depth 0 told.raw ss is.last is.are
+    (subst (λ l. All (IsCut told.raw) l) is.names_are told.are.cuts) in
+    let spells : cut_text (cuts_from ss) is.last ≡ short.text = cuts_spell ss is.last ∙ sym is.text_is in
+    let cut = many_cut (cuts_from ss) is.last told.raw (ap tokens spells ∙ told.lexes) cuts in
+    let made = put reach short.depth cut.parts ss is.last cut.texts cut.are is.are in
+    let long_woven : AreWoven made.long is.last = woven_replaced cut.parts made.long is.last cut.are made.replaced in
+    record {
+      cut = cut;
+      put_is = made;
+      paired = named_paired reach cut.parts made.long made.holes is.last cut.after cut.are long_woven cut.lexes made.named;
+      short_is = sym spells ∙ ap (λ l. cut_text l is.last) (sym cut.texts) ∙ sym (woven_text cut.parts is.last);
+      long_is = is.long_is ∙ sym made.text;
+    }
+
+pub read_told : (reach : Reach) (short : ShortText) (long : List ℕ) (read : ShortRead) → IsUtf8 short.text → IsUtf8 long
+    → trimmed short.text ≡ short.text → trimmed long ≡ long → trimmed_front long ≡ 0 → 0 < length long → length long < 2 ^ 32
+    → fragment_reading_of reach fragments.Expr short.text ≡ Ok read.tree → IsTold short read → read.bytes ≡ length long
+    → IsShort reach short long → IsReadOf reach read long
+read_told reach short long read utf8 long_utf8 alone long_alone front some few reads told counted is =
+    let ss : List Stretch = is.stretches in
+    let d : ℕ = short.depth in
+    let parts = parts_of reach short long read is told in
+    let ps : List Part = parts.cut.parts in
+    let holes : Holes = holes_in 0 ps parts.put_is.holes in
+    let numbered : map (λ (name : Name). solid_before name.at told.raw) (names_from 0 ss) ≡ numbers_of 0 ps =
+    names_numbered 0 0 told.raw told.raw ps parts.put_is.long ss is.last parts.cut.after parts.cut.are parts.cut.lexes parts.put_is.matched
+    (ap tokens (sym parts.short_is) ∙ told.lexes) (λ byte. ap (λ n. solid_before n told.raw) (omega arith) ∙ omega arith) in
+    let held : AreHeld read.tree told.numbers holes =
+    tokens_held read.tree told.numbers holes (numbers_of 0 ps) (λ n. numbers_held reach 0 ps parts.put_is.long parts.put_is.holes n parts.put_is.named)
+    (told.are.same ∙ ap (map (λ (name : Name). solid_before name.at told.raw)) is.names_are ∙ numbered) in
+    let filled = long_read reach holes ps parts.put_is.long is.last parts.cut.after short.text long read.tree parts.paired (alone ∙ parts.short_is)
+    (long_alone ∙ parts.long_is) (subst IsUtf8 (sym alone) utf8) few reads (told.is_core holes held) in
+    let deep : depth_of filled.long ≤ depth_of read.tree + d =
+    long_low reach holes d short.text long read.tree filled (λ number hole e. holes_low d 0 ps parts.put_is.holes number hole parts.put_is.low e) in
+    let names : read.names ≡ names_from 0 ss = told.names_are ∙ is.names_are in
+    record {
+      syntax = filled.long;
+      utf8 = long_utf8;
+      alone = long_alone;
+      front = front;
+      some = some;
+      reads = filled.read ∙ shallow_read filled.long (omega (arith, deep, told.deep, told.shallow));
+      deep = omega (arith, deep, told.deep);
+      counted = counted;
+      nodes = λ from to less outside other.
+          subst (λ l. has_node_at read.tree 0 from to ≡ has_node_at filled.long 0 (long_place l from) (long_place l to)) (sym names)
+          (no_front read.tree filled.long from to (long_place (names_from 0 ss) from) (long_place (names_from 0 ss) to)
+          (read_nodes reach holes ps parts.put_is.long is.last parts.cut.after short.text long read.tree parts.paired (alone ∙ parts.short_is)
+          (long_alone ∙ parts.long_is) filled 0 0 from to (long_place (names_from 0 ss) from) (long_place (names_from 0 ss) to)
+          (same_bytes reach d ps parts.put_is.long ss is.last parts.put_is.matched is.are from to less (subst (λ l. IsOutside l from) names outside)
+          (subst (λ l. IsOutside l to) names other))));
+    } where
+      no_front : (x y : Syntax) (from to long_from long_to : ℕ)
+          → has_node_at x 0 (0 + from) (0 + to) ≡ has_node_at y 0 (0 + long_from) (0 + long_to) → has_node_at x 0 from to ≡ has_node_at y 0 long_from long_to
+      no_front x y from to long_from long_to e =
+          let zero : (n : ℕ) → n ≡ 0 + n = λ n. omega arith in
+          ap (λ n. has_node_at x 0 n to) (zero from) ∙ ap (has_node_at x 0 (0 + from)) (zero to) ∙ e
+          ∙ ap (λ n. has_node_at y 0 n (0 + long_to)) (sym (zero long_from)) ∙ ap (has_node_at y 0 long_from) (sym (zero long_to))

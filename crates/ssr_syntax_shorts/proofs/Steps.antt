@@ -1,0 +1,139 @@
+-- Steps of the loops that read short texts.
+use Rattle.std.proofs.Common.{◌≡◌, ℕ, zero, suc, ◌+◌, ◌-◌, ◌<◌, ◌≤◌, ◌==◌, ◌&&◌, Bool, true, false, if◌then◌else◌, List, [], ◌∷◌, ◌++◌, length, map, take, drop, get_or, refl, sym, ap, subst, ◌∙◌, arith}
+use Rattle.std.specs.Prelude.{⊤, max, All}
+use Rattle.std.proofs.lemmas.List.{length-append, length-take, length-drop, take_all, take_more, map_more, map_push, get_or_default}
+use Rattle.std.proofs.lemmas.List.Elements.{All-append, All-cons, All-nil}
+use Rattle.std.proofs.lemmas.List.Folds.{list_any_at, list_any_none}
+use Rattle.std.proofs.lemmas.Option.{unwrap_or-slice_get}
+use Rattle.ssr_syntax_kinds.specs.Kinds.{is_trivia}
+use Rattle.ssr_syntax_kinds.specs.declared.kinds.SyntaxKind.{SyntaxKind}
+use Rattle.ssr_syntax_lex.specs.declared.tokens.RawToken.{RawToken}
+use Rattle.ssr_syntax_tree.specs.Syntax.{Syntax, Token, Forest, nothing, leaf, branch, node_count, height, depth_of, tokens_of}
+use Rattle.ssr_syntax_tree.specs.Places.{Node, nodes_of, node_of, token_of, start_of, end_of, depths_in, depths_of, depth_at, HasNode, HasToken}
+use Rattle.ssr_syntax_tree.specs.declared.number.TokenNo.{TokenNo}
+use Rattle.ssr_syntax_tree.proofs.Shared.{length-nodes_of, length-tokens_in}
+use Rattle.ssr_syntax_forms.specs.Kinds.{mem}
+use Rattle.ssr_syntax_places.specs.PlainCore.{of_two, of_three, size_of_kind, solid_size}
+use Rattle.ssr_syntax_places.specs.Spans.{has_node_at}
+use Rattle.ssr_syntax_shorts.specs.Held.{size_of_row, solid_number}
+use Rattle.ssr_syntax_shorts.specs.Told.{IsCut, AreTokens, solid_before}
+use Rattle.ssr_syntax_shorts.specs.declared.names.Name.{Name}
+
+-- ** A text without white space around it.
+
+none_left : (r : List ℕ) → length r ≡ 0 → r ≡ []
+none_left [] e = refl
+none_left (c ∷ cs) e = absurd (omega (arith, e))
+
+-- a part of a text that is as long is the text
+pub alone_same : (s r : List ℕ) (m n : ℕ) → r ≡ take n (drop m s) → length r ≡ length s → r ≡ s
+alone_same [] r m n is e = none_left r e
+alone_same (c ∷ cs) r zero n is e = is ∙ take_all n (c ∷ cs) (omega (arith, ap length is, length-take n (c ∷ cs), e))
+alone_same (c ∷ cs) r (suc m) n is e = absurd (omega (arith, ap length is, length-take n (drop m cs), length-drop m cs, e))
+
+-- ** The depth of a tree.
+
+abbrev AreBelow : ℕ → List ℕ → Type 0
+AreBelow d [] = ⊤
+AreBelow d (x ∷ xs) = (x ≤ d) × AreBelow d xs
+
+below_from : (d : ℕ) (xs : List ℕ) → ((i : ℕ) → i < length xs → get_or xs i 0 ≤ d) → AreBelow d xs
+below_from d [] h = tt
+below_from d (x ∷ xs) h = (h 0 (omega arith), below_from d xs (λ i less. h (suc i) (omega (arith, less))))
+
+below_parts : (d : ℕ) (xs ys : List ℕ) → AreBelow d (xs ++ ys) → AreBelow d xs × AreBelow d ys
+below_parts d [] ys h = (tt, h)
+below_parts d (x ∷ xs) ys h = let rest = below_parts d xs ys h.1 in ((h.0, rest.0), rest.1)
+
+heights : (depth d : ℕ) (z : Forest) → AreBelow d (depths_in depth z) → height z ≤ (1 + d) - depth
+heights depth d nothing h = omega arith
+heights depth d (leaf token next) h = heights depth d next h
+heights depth d (branch kind below next) h =
+    let parts = below_parts d (depths_in (1 + depth) below) (depths_in depth next) h.1 in
+    let inner = heights (1 + depth) d below parts.0 in
+    let rest = heights depth d next parts.1 in
+    omega (arith, inner, rest, h.0)
+
+depths_count : (depth : ℕ) (z : Forest) → length (depths_in depth z) ≡ node_count z
+depths_count depth nothing = refl
+depths_count depth (leaf token next) = depths_count depth next
+depths_count depth (branch kind below next) =
+    omega (arith, length-append (depths_in (1 + depth) below) (depths_in depth next), depths_count (1 + depth) below, depths_count depth next)
+
+pub depth_below : (syntax : Syntax) (d : ℕ) → ((n : ℕ) → HasNode syntax n → depth_at syntax n ≤ d) → depth_of syntax ≤ d
+unfolding depth_at
+depth_below syntax d h =
+    let count : length (depths_in 1 syntax.children) ≡ node_count syntax.children = depths_count 1 syntax.children in
+    let all : AreBelow d (depths_in 1 syntax.children) = below_from d (depths_in 1 syntax.children) (λ i less. h (suc i) (omega (arith, less, count))) in
+    omega (arith, heights 1 d syntax.children all)
+
+-- ** Nodes.
+
+pub node_at : (tree : Syntax) (n : ℕ) (d : Node) → HasNode tree n → get_or (nodes_of tree) n d ≡ node_of tree n
+unfolding node_of
+node_at tree n d h = get_or_default (nodes_of tree) n d _ (omega (arith, length-nodes_of tree)) ∙ sym (unwrap_or-slice_get (nodes_of tree) n _)
+
+pub node_found : (tree : Syntax) (from to n : ℕ) → HasNode tree n
+    → (0 + start_of tree (node_of tree n) == from && 0 + end_of tree (node_of tree n) == to) ≡ true → has_node_at tree 0 from to ≡ true
+unfolding has_node_at
+node_found tree from to n h e =
+    list_any_at (λ node. 0 + start_of tree node == from && 0 + end_of tree node == to) (nodes_of tree) n (node_of tree n)
+    (omega (arith, length-nodes_of tree))
+    (rw (node_at tree n (node_of tree n) h) e)
+
+pub node_missing : (tree : Syntax) (from to : ℕ)
+    → ((n : ℕ) → HasNode tree n → (0 + start_of tree (node_of tree n) == from && 0 + end_of tree (node_of tree n) == to) ≡ false)
+    → has_node_at tree 0 from to ≡ false
+unfolding has_node_at
+node_missing tree from to none =
+    list_any_none (λ node. 0 + start_of tree node == from && 0 + end_of tree node == to) (nodes_of tree)
+    (λ k d h. let has : HasNode tree k = omega (arith, length-nodes_of tree) in rw (node_at tree k d has) (none k has))
+
+-- ** The number of a token.
+
+size_bound : (three two : Bool) → (if three then 3 else if two then 2 else 1) ≤ 3
+size_bound true two = omega arith
+size_bound false true = omega arith
+size_bound false false = omega arith
+
+pub size_few : (kind : SyntaxKind) → size_of_kind kind ≤ 3
+size_few kind = size_bound (mem kind of_three) (mem kind of_two)
+
+size_append : (xs ys : List Token) → solid_size (xs ++ ys) ≡ solid_size xs + solid_size ys
+size_append [] ys = omega arith
+size_append (x ∷ xs) ys = omega (arith, size_append xs ys)
+
+pub number_more : (tree : Syntax) (t : ℕ) → HasToken tree t → solid_number tree (t + 1) ≡ solid_number tree t + size_of_row (token_of tree t)
+unfolding token_of
+number_more tree t has =
+    let ts : List Token = tokens_of tree in
+    let d : Token = token_of tree t in
+    let one : take (t + 1) ts ≡ take t ts ++ (get_or ts t d ∷ []) = take_more ts t d (omega (arith, has, length-tokens_in tree.children)) in
+    let same : get_or ts t d ≡ token_of tree t =
+    get_or_default ts t d _ (omega (arith, has, length-tokens_in tree.children)) ∙ sym (unwrap_or-slice_get ts t _) in
+    ap solid_size one ∙ size_append (take t ts) (get_or ts t d ∷ [])
+    ∙ (let last : solid_size (get_or ts t d ∷ []) ≡ size_of_row (token_of tree t) = omega (arith, ap size_of_row same) in
+    ap (λ n. solid_size (take t ts) + n) last)
+
+-- ** Names that are tokens.
+
+pub tokens_none : (syntax : Syntax) (raw : List RawToken) → AreTokens syntax raw [] []
+tokens_none syntax raw = record { cuts = All-nil (IsCut raw); same = refl }
+
+pub tokens_more : (syntax : Syntax) (raw : List RawToken) (names : List Name) (tokens : List TokenNo) (i : ℕ) (name : Name) (token : TokenNo)
+    → i < length names → name ≡ get_or names i name → IsCut raw name → solid_number syntax token.0 ≡ solid_before name.at raw
+    → AreTokens syntax raw (take i names) tokens → AreTokens syntax raw (take (i + 1) names) (tokens ++ (token ∷ []))
+tokens_more syntax raw names tokens i name token less is cut same are =
+    let f : TokenNo → ℕ = λ t. solid_number syntax t.0 in
+    let g : Name → ℕ = λ n. solid_before n.at raw in
+    let P : Name → Type 0 = IsCut raw in
+    let one : take (i + 1) names ≡ take i names ++ (name ∷ []) =
+    take_more names i name less ∙ ap (λ n. take i names ++ (n ∷ [])) (sym is) in
+    record {
+      cuts = subst (All P) (sym one) (All-append P (take i names) (name ∷ []) are.cuts (All-cons P name [] cut (All-nil P)));
+      same = map_push f tokens token
+          ∙ ap (λ l. l ++ (f token ∷ [])) are.same
+          ∙ ap (λ n. map g (take i names) ++ (n ∷ [])) same
+          ∙ sym (map_push g (take i names) name)
+          ∙ ap (map g) (sym one);
+    }
