@@ -61,7 +61,7 @@ name_cons : (a b bytes : ℕ) (x y : List Name) → a ≡ b → x ≡ y
 name_cons a b bytes x y e f =
     ap (λ n. record { at = n; bytes = bytes } ∷ x) e ∙ ap (λ (l : List Name). record { at = b; bytes = bytes } ∷ l) f
 
-names_moved : (n m : ℕ) (ts : List Stretch) → names_from (n + m) ts ≡ map (moved n) (names_from m ts)
+pub names_moved : (n m : ℕ) (ts : List Stretch) → names_from (n + m) ts ≡ map (moved n) (names_from m ts)
 names_moved n m [] = refl
 names_moved n m (t ∷ ts) =
     let size : ℕ = (length t.front + 1) + 1 in

@@ -1,6 +1,6 @@
 -- What is read of a short text tells what is read of the long one.
 use Rattle.std.proofs.Common.{◌≡◌, ℕ, ◌+◌, ◌<◌, ◌≤◌, ◌^◌, ◌==◌, nat_lt, not, Bool, true, false, if◌then◌else◌, List, [], ◌∷◌, length, map, Some, None, refl, sym, ap, subst, ◌∙◌, arith}
-use Rattle.std.specs.Prelude.{All, Option, Result, Ok, Err, max}
+use Rattle.std.specs.Prelude.{All, IfOk, IfSome, Option, Result, Ok, Err, max}
 use Rattle.std.specs.List.{list_any}
 use Rattle.std.specs.Str.{IsUtf8}
 use Rattle.std.proofs.lemmas.Bool.Decides.{nat_tests}
@@ -16,6 +16,7 @@ use Rattle.ssr_syntax_tree.specs.Syntax.{Syntax, depth_of, most_deep}
 use Rattle.ssr_syntax_tree.specs.declared.number.TokenNo.{TokenNo}
 use Rattle.ssr_syntax_forms.specs.Trees.{Forest, done, leaf, tree, height, spell}
 use Rattle.ssr_syntax.specs.Reading.{fragment_reading_of, trimmed, trimmed_front}
+use Rattle.ssr_syntax.specs.declared.syntax_error.SyntaxError.TheVariants as errors
 use Rattle.ssr_syntax_places.specs.Core.{Hole, Holes, is_no_hole}
 use Rattle.ssr_syntax_places.specs.Insides.{with_inside}
 use Rattle.ssr_syntax_places.specs.LongTexts.{ArePaired, IsReadFilled, filled_height, path_height, holes_in, unless_deep}
@@ -58,10 +59,11 @@ filled_low holes d low at (tree kind kids x) =
 
 forest_low : (z : plain.Forest) → height (forest_in z) ≤ plain.height z
 forest_low plain.nothing = omega arith
-forest_low (plain.leaf token x) = either (is_trivia token.kind) where
-  either : (b : Bool) → height (if b then forest_in x else leaf token.kind (tokens_like token.kind) (forest_in x)) ≤ plain.height x
-  either true = forest_low x
-  either false = forest_low x
+forest_low (plain.leaf token x) = either (is_trivia token.kind) (forest_low x) where
+  either : (b : Bool) → height (forest_in x) ≤ plain.height x
+      → height (if b then forest_in x else leaf token.kind (tokens_like token.kind) (forest_in x)) ≤ plain.height x
+  either true low = low
+  either false low = low
 forest_low (plain.branch kind below x) = let inner = forest_low below in let rest = forest_low x in omega (arith, inner, rest)
 
 long_low : (reach : Reach) (holes : Holes) (d : ℕ) (name text : List ℕ) (short : Syntax) (read : IsReadFilled reach holes name text short)
@@ -76,7 +78,7 @@ long_low reach holes d name text short read low =
 shallow_read : (syntax : Syntax) → depth_of syntax ≤ most_deep → unless_deep syntax ≡ Ok syntax
 shallow_read syntax le =
     let is : nat_lt most_deep (depth_of syntax) ≡ false = grind (arith, nat_tests, le) in
-    ap (λ b. if b then Err _ else Ok syntax) is
+    ap (λ b. if b then Err errors.TooDeep else Ok syntax) is
 
 -- ** Which tokens stand for something.
 
@@ -161,3 +163,14 @@ read_told reach short long read utf8 long_utf8 alone long_alone front some few r
           let zero : (n : ℕ) → n ≡ 0 + n = λ n. omega arith in
           ap (λ n. has_node_at x 0 n to) (zero from) ∙ ap (has_node_at x 0 (0 + from)) (zero to) ∙ e
           ∙ ap (λ n. has_node_at y 0 n (0 + long_to)) (sym (zero long_from)) ∙ ap (has_node_at y 0 long_from) (sym (zero long_to))
+
+-- the same of an answer, if there is one
+pub all_told : {E : Type 0} → (reach : Reach) (short : ShortText) (long : List ℕ) (tree : Syntax) (r : Result (Option ShortRead) E) → IsUtf8 short.text
+    → IsUtf8 long → trimmed short.text ≡ short.text → trimmed long ≡ long → trimmed_front long ≡ 0 → 0 < length long → length long < 2 ^ 32
+    → fragment_reading_of reach fragments.Expr short.text ≡ Ok tree → IfOk r (λ answer. IfSome answer (λ read. IsTold short read))
+    → IfOk r (λ answer. IfSome answer (λ read. read.tree ≡ tree)) → IfOk r (λ answer. IfSome answer (λ read. read.bytes ≡ length long))
+    → IfOk r (λ answer. IfSome answer (λ read. IsShort reach short long → IsReadOf reach read long))
+all_told reach short long tree (Err e) utf8 long_utf8 alone long_alone front some few reads told same counted = tt
+all_told reach short long tree (Ok None) utf8 long_utf8 alone long_alone front some few reads told same counted = tt
+all_told reach short long tree (Ok (Some read)) utf8 long_utf8 alone long_alone front some few reads told same counted =
+    read_told reach short long read utf8 long_utf8 alone long_alone front some few (reads ∙ ap (λ t. Ok t) (sym same)) told counted

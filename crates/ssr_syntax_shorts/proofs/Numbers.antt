@@ -3,12 +3,13 @@ use Rattle.std.proofs.Common.{◌≡◌, ℕ, ◌+◌, ◌<◌, ◌≤◌, ◌==
 use Rattle.std.specs.Prelude.{Option, count_by}
 use Rattle.std.specs.List.{list_any}
 use Rattle.std.specs.Str.{IsUtf8}
+use Rattle.std.proofs.lemmas.Bool.Decides.{nat_tests}
 use Rattle.std.proofs.lemmas.List.{length-append}
 use Rattle.std.proofs.lemmas.List.Sums.{sum_by-cons}
 use Rattle.ssr_syntax_kinds.specs.Kinds.{is_trivia}
 use Rattle.ssr_syntax_kinds.specs.declared.reach.Reach.{Reach}
 use Rattle.ssr_syntax_lex.specs.Seams.{moved as token_moved, all_in_front, side_by_side, is_seam}
-use Rattle.ssr_syntax_lex.specs.Tokens.{tokens, TilesFrom}
+use Rattle.ssr_syntax_lex.specs.Tokens.{tokens, begins_with_punctuation, TilesFrom}
 use Rattle.ssr_syntax_lex.specs.declared.tokens.RawToken.{RawToken}
 use Rattle.ssr_syntax_lex.proofs.Shared.{tokens_tile, before_seam, behind_seam}
 use Rattle.ssr_syntax_tree.specs.Syntax.{Syntax}
@@ -64,16 +65,16 @@ all_before text start byte [] us tiles le = omega arith
 all_before text start byte (t ∷ ts) us tiles le =
     let rest : solid_before byte (all_in_front ts us) ≡ length (solid_tokens ts) + solid_before byte us =
     all_before text t.range.end byte ts us tiles.3 le in
-    let low : nat_lt t.range.start byte ≡ true = low_enough text start t ts tiles in
+    let low : nat_lt t.range.start byte ≡ true = low_enough start t ts tiles in
     let first : solid_before byte (all_in_front (t ∷ ts) us) ≡ cond (counts byte t) 1 0 + solid_before byte (all_in_front ts us) =
-    before_cons byte _ (all_in_front ts us) in
+    before_cons byte (record { kind = t.kind; range = t.range; joint = begins_with_punctuation (all_in_front ts us) }) (all_in_front ts us) in
     first ∙ one (is_trivia t.kind) (nat_lt t.range.start byte) low rest where
       within : (start : ℕ) (ts : List RawToken) → TilesFrom text start ts → start ≤ length text
       within start [] tiles = omega (arith, tiles)
       within start (t ∷ ts) tiles = omega (arith, tiles.1, within t.range.end ts tiles.3)
 
-      low_enough : (text : List ℕ) (start : ℕ) (t : RawToken) (ts : List RawToken) → TilesFrom text start (t ∷ ts) → nat_lt t.range.start byte ≡ true
-      low_enough text start t ts tiles = grind (arith, tiles.0, tiles.1, within t.range.end ts tiles.3, le)
+      low_enough : (start : ℕ) (t : RawToken) (ts : List RawToken) → TilesFrom text start (t ∷ ts) → nat_lt t.range.start byte ≡ true
+      low_enough start t ts tiles = grind (arith, nat_tests, tiles.0, tiles.1, within t.range.end ts tiles.3, le)
 
       one : (trivia low : Bool) → low ≡ true → solid_before byte (all_in_front ts us) ≡ length (solid_tokens ts) + solid_before byte us
           → cond (not trivia && low) 1 0 + solid_before byte (all_in_front ts us)
@@ -91,7 +92,7 @@ moved_before n byte (u ∷ us) =
     ∙ ap (λ m. cond (counts byte u) 1 0 + m) (moved_before n byte us)
     ∙ sym (before_cons byte u us) where
       same_less : (n a b : ℕ) → nat_lt (n + a) (n + b) ≡ nat_lt a b
-      same_less n a b = grind arith
+      same_less n a b = grind (arith, nat_tests)
 
 pub side_before : (text : List ℕ) (byte : ℕ) (ts us : List RawToken) → IsUtf8 text → tokens text ≡ Some ts
     → solid_before (length text + byte) (side_by_side (length text) ts us) ≡ length (solid_tokens ts) + solid_before byte us
@@ -127,11 +128,11 @@ part_before p byte after front_is inside_is =
 
 none_before : (ts : List RawToken) → solid_before 0 ts ≡ 0
 none_before [] = refl
-none_before (t ∷ ts) = before_cons 0 t ts ∙ nothing (is_trivia t.kind) (nat_lt t.range.start 0) (grind arith) where
-  nothing : (trivia low : Bool) → low ≡ false → cond (not trivia && low) 1 0 + solid_before 0 ts ≡ 0
-  nothing true low e = omega (arith, none_before ts)
-  nothing false false e = omega (arith, none_before ts)
-  nothing false true e = absurd (cc)
+none_before (t ∷ ts) = before_cons 0 t ts ∙ nothing (is_trivia t.kind) (nat_lt t.range.start 0) (solid_before 0 ts) (none_before ts) (grind (arith, nat_tests)) where
+  nothing : (trivia low : Bool) (n : ℕ) → n ≡ 0 → low ≡ false → cond (not trivia && low) 1 0 + n ≡ 0
+  nothing true low n none e = omega (arith, none)
+  nothing false false n none e = omega (arith, none)
+  nothing false true n none e = absurd (cc)
 
 pub name_before : (p : Part) (after : List RawToken) → IsLexed (p.front ++ p.opening ∷ []) p.before
     → solid_before (length p.front + 1) (side_by_side (length p.front + 1) p.before after) ≡ length (solid_tokens p.before)

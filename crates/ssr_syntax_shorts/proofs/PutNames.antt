@@ -12,7 +12,14 @@ use Rattle.ssr_syntax_kinds.specs.declared.reach.Reach.{Reach}
 use Rattle.ssr_syntax_kinds.proofs.Shared.{same_kind-equal}
 use Rattle.ssr_syntax_lex.specs.Seams.{has_token_at, is_seam, ends_in_line_comment}
 use Rattle.ssr_syntax_lex.specs.Cursor.{begins}
+use Rattle.ssr_syntax_lex.specs.Raw.{token}
 use Rattle.ssr_syntax_lex.specs.Tokens.{tokens, token_text}
+use Rattle.ssr_syntax_lex.specs.Words.{word_kind}
+use Rattle.ucd_derived.specs.Binary.{is_xid_start, is_xid_continue}
+use Rattle.ucd_derived.specs.XidStartRanges.{xid_start_ranges}
+use Rattle.ucd_derived.specs.XidContinueRanges.{xid_continue_ranges}
+use Rattle.ucd_table.specs.Rows.{in_ranges}
+use Rattle.std.specs.Char.{encode_utf8}
 use Rattle.ssr_syntax_lex.specs.declared.tokens.RawToken.{RawToken}
 use Rattle.ssr_syntax_tree.specs.Syntax.{Syntax, depth_of}
 use Rattle.ssr_syntax_forms.specs.Trees.{Forest, height}
@@ -64,7 +71,7 @@ cuts_are reach d at raw (s ∷ ss) last (utf8, shut, inside, are) cuts =
 -- ** The name alone.
 
 name_alone : (raw : List RawToken) → tokens the_name ≡ Some raw → (length raw ≡ 1) × (is_single (solid_tokens raw) ≡ true)
-unfolding tokens chars
+unfolding tokens chars token word_kind is_xid_start is_xid_continue in_ranges xid_start_ranges xid_continue_ranges encode_utf8
 name_alone raw e =
     let one : List RawToken = unwrap_or (tokens the_name) [] in
     let same : raw ≡ one = ap (λ o. unwrap_or o []) (sym e) in
@@ -85,10 +92,9 @@ solid_ended : (text : List ℕ) (raw : List RawToken) → begins_solid (reverse 
 solid_ended text [] is = refl
 solid_ended text (t ∷ []) is = no_comment t.kind (begins "//" (token_text text t)) (not-true (is_trivia t.kind) is)
 solid_ended text (t ∷ u ∷ us) is =
-    let us' : List RawToken = u ∷ us in
-    solid_ended text us'
-    (sym (solid_front (reverse us') (reverse (t ∷ [])) (omega (arith, length-reverse us')))
-    ∙ sym (ap begins_solid (reverse-append (t ∷ []) us')) ∙ is)
+    solid_ended text (u ∷ us)
+    (sym (solid_front (reverse (u ∷ us)) (reverse (t ∷ [])) (omega (arith, length-reverse (u ∷ us))))
+    ∙ sym (ap begins_solid (reverse-append (t ∷ []) (u ∷ us))) ∙ is)
 
 -- ** What stands in the place of the names.
 
