@@ -1,5 +1,5 @@
 -- What is read of a short text tells what is read of the long one.
-use Rattle.std.proofs.Common.{◌≡◌, ℕ, ◌+◌, ◌<◌, ◌≤◌, ◌^◌, ◌==◌, nat_lt, not, Bool, true, false, if◌then◌else◌, List, [], ◌∷◌, length, map, Some, None, refl, sym, ap, subst, ◌∙◌, arith}
+use Rattle.std.proofs.Common.{◌≡◌, ℕ, zero, suc, ◌+◌, ◌<◌, ◌≤◌, ◌^◌, ◌==◌, nat_lt, not, Bool, true, false, if◌then◌else◌, List, [], ◌∷◌, length, map, Some, None, refl, sym, ap, subst, ◌∙◌, arith}
 use Rattle.std.specs.Prelude.{All, IfOk, IfSome, Option, Result, Ok, Err, max}
 use Rattle.std.specs.List.{list_any}
 use Rattle.std.specs.Str.{IsUtf8}
@@ -119,6 +119,12 @@ parts_of reach short long read is told =
       long_is = is.long_is ∙ sym made.text;
     }
 
+behind_none : (raw : List RawToken) (byte : ℕ) → solid_before (0 + byte) raw ≡ 0 + solid_before byte raw
+behind_none raw byte =
+    let same : 0 + byte ≡ byte = omega arith in
+    let count : solid_before byte raw ≡ 0 + solid_before byte raw = omega arith in
+    ap (λ n. solid_before n raw) same ∙ count
+
 pub read_told : (reach : Reach) (short : ShortText) (long : List ℕ) (read : ShortRead) → IsUtf8 short.text → IsUtf8 long
     → trimmed short.text ≡ short.text → trimmed long ≡ long → trimmed_front long ≡ 0 → 0 < length long → length long < 2 ^ 32
     → fragment_reading_of reach fragments.Expr short.text ≡ Ok read.tree → IsTold short read → read.bytes ≡ length long
@@ -131,7 +137,7 @@ read_told reach short long read utf8 long_utf8 alone long_alone front some few r
     let holes : Holes = holes_in 0 ps parts.put_is.holes in
     let numbered : map (λ (name : Name). solid_before name.at told.raw) (names_from 0 ss) ≡ numbers_of 0 ps =
     names_numbered 0 0 told.raw told.raw ps parts.put_is.long ss is.last parts.cut.after parts.cut.are parts.cut.lexes parts.put_is.matched
-    (ap tokens (sym parts.short_is) ∙ told.lexes) (λ byte. ap (λ n. solid_before n told.raw) (omega arith) ∙ omega arith) in
+    (ap tokens (sym parts.short_is) ∙ told.lexes) (behind_none told.raw) in
     let held : AreHeld read.tree told.numbers holes =
     tokens_held read.tree told.numbers holes (numbers_of 0 ps) (λ n. numbers_held reach 0 ps parts.put_is.long parts.put_is.holes n parts.put_is.named)
     (told.are.same ∙ ap (map (λ (name : Name). solid_before name.at told.raw)) is.names_are ∙ numbered) in
@@ -164,13 +170,17 @@ read_told reach short long read utf8 long_utf8 alone long_alone front some few r
           ap (λ n. has_node_at x 0 n to) (zero from) ∙ ap (has_node_at x 0 (0 + from)) (zero to) ∙ e
           ∙ ap (λ n. has_node_at y 0 n (0 + long_to)) (sym (zero long_from)) ∙ ap (has_node_at y 0 long_from) (sym (zero long_to))
 
+pub some_left : (n : ℕ) → false ≡ (n == 0) → 0 < n
+some_left zero e = absurd (cc)
+some_left (suc n) e = omega arith
+
 -- the same of an answer, if there is one
-pub all_told : {E : Type 0} → (reach : Reach) (short : ShortText) (long : List ℕ) (tree : Syntax) (r : Result (Option ShortRead) E) → IsUtf8 short.text
+pub all_told : {E : Type 0} → (reach : Reach) (short : ShortText) (long : List ℕ) (syntax : Syntax) (r : Result (Option ShortRead) E) → IsUtf8 short.text
     → IsUtf8 long → trimmed short.text ≡ short.text → trimmed long ≡ long → trimmed_front long ≡ 0 → 0 < length long → length long < 2 ^ 32
-    → fragment_reading_of reach fragments.Expr short.text ≡ Ok tree → IfOk r (λ answer. IfSome answer (λ read. IsTold short read))
-    → IfOk r (λ answer. IfSome answer (λ read. read.tree ≡ tree)) → IfOk r (λ answer. IfSome answer (λ read. read.bytes ≡ length long))
+    → fragment_reading_of reach fragments.Expr short.text ≡ Ok syntax → IfOk r (λ answer. IfSome answer (λ read. IsTold short read))
+    → IfOk r (λ answer. IfSome answer (λ read. read.tree ≡ syntax)) → IfOk r (λ answer. IfSome answer (λ read. read.bytes ≡ length long))
     → IfOk r (λ answer. IfSome answer (λ read. IsShort reach short long → IsReadOf reach read long))
-all_told reach short long tree (Err e) utf8 long_utf8 alone long_alone front some few reads told same counted = tt
-all_told reach short long tree (Ok None) utf8 long_utf8 alone long_alone front some few reads told same counted = tt
-all_told reach short long tree (Ok (Some read)) utf8 long_utf8 alone long_alone front some few reads told same counted =
+all_told reach short long syntax (Err e) utf8 long_utf8 alone long_alone front some few reads told same counted = tt
+all_told reach short long syntax (Ok None) utf8 long_utf8 alone long_alone front some few reads told same counted = tt
+all_told reach short long syntax (Ok (Some read)) utf8 long_utf8 alone long_alone front some few reads told same counted =
     read_told reach short long read utf8 long_utf8 alone long_alone front some few (reads ∙ ap (λ t. Ok t) (sym same)) told counted
