@@ -10,7 +10,7 @@ use Rattle.ssr_syntax.specs.Reading.{trimmed}
 use Rattle.ssr_syntax.proofs.Shared.{fragment_sound_of}
 use Rattle.ssr_syntax_places.specs.Insides.{with_inside}
 use Rattle.ssr_syntax_shorts.specs.Shorts.{Inside, Stretch, ShortText, ShortRead, the_name, opening, closes, short_text, long_text, names_from, IsInside, AreStretches, IsShort, as_it_is, moved, joined, in_parentheses, long_place, IsOutside, IsReadOf}
-use Rattle.ssr_syntax_shorts.specs.declared.names.Name.{Name}
+use Rattle.ssr_syntax_shorts.specs.declared.stand_ins.Name.{Name}
 
 -- ** The texts of both.
 

@@ -1,5 +1,6 @@
 pub mod Shared
 mod Steps
+mod NamedByParts
 mod Joined
 mod PutNames
 mod Numbers

@@ -19,17 +19,18 @@ use Rattle.ssr_syntax.specs.Reading.{fragment_reading_of, trimmed, trimmed_front
 use Rattle.ssr_syntax.specs.declared.syntax_error.SyntaxError.TheVariants as errors
 use Rattle.ssr_syntax_places.specs.Core.{Hole, Holes, is_no_hole}
 use Rattle.ssr_syntax_places.specs.Insides.{with_inside}
-use Rattle.ssr_syntax_places.specs.LongTexts.{ArePaired, IsReadFilled, filled_height, path_height, holes_in, unless_deep}
+use Rattle.ssr_syntax_places.specs.LongTexts.{AreNamed, ArePaired, IsReadFilled, filled_height, path_height, holes_in, unless_deep}
 use Rattle.ssr_syntax_places.specs.PlainCore.{forest_in, is_core_tree, tokens_like}
 use Rattle.ssr_syntax_places.specs.Spans.{has_node_at}
 use Rattle.ssr_syntax_places.specs.Standing.{node}
 use Rattle.ssr_syntax_places.specs.Woven.{Part, AreCut, cut_text, cuts_of, woven, AreWoven}
 use Rattle.ssr_syntax_places.proofs.Shared.{many_cut, woven_replaced, named_paired, long_read, long_depth, read_nodes}
-use Rattle.ssr_syntax_shorts.specs.Held.{solid_number, AreHeld}
+use Rattle.ssr_syntax_shorts.specs.Names.{name_places, AreNames}
 use Rattle.ssr_syntax_shorts.specs.Shorts.{Stretch, ShortText, ShortRead, short_text, long_text, names_from, AreStretches, IsShort, IsOutside, IsReadOf, long_place}
 use Rattle.ssr_syntax_shorts.specs.Told.{AreTokens, IsCut, IsTold, solid_before}
-use Rattle.ssr_syntax_shorts.specs.declared.names.Name.{Name}
-use Rattle.ssr_syntax_shorts.proofs.Numbers.{any_mapped, names_numbered, numbers_held, numbers_of}
+use Rattle.ssr_syntax_shorts.specs.declared.stand_ins.Name.{Name}
+use Rattle.ssr_syntax_shorts.proofs.Numbers.{names_numbered}
+use Rattle.ssr_syntax_shorts.proofs.NamedByParts.{named_by_parts}
 use Rattle.ssr_syntax_shorts.proofs.PutNames.{ArePut, cuts_are, cuts_from, cuts_spell, holes_low, put}
 use Rattle.ssr_syntax_shorts.proofs.SamePlaces.{same_bytes}
 
@@ -80,12 +81,12 @@ shallow_read syntax le =
     let is : nat_lt most_deep (depth_of syntax) ≡ false = grind (arith, nat_tests, le) in
     ap (λ b. if b then Err errors.TooDeep else Ok syntax) is
 
--- ** Which tokens stand for something.
+-- ** As many holes as names.
 
-tokens_held : (syntax : Syntax) (numbers : List TokenNo) (holes : Holes) (ms : List ℕ)
-    → ((n : ℕ) → is_no_hole (holes n) ≡ not (list_any (λ m. n == m) ms)) → map (λ (t : TokenNo). solid_number syntax t.0) numbers ≡ ms → AreHeld syntax numbers holes
-tokens_held syntax numbers holes ms held same n =
-    held n ∙ ap (λ l. not (list_any (λ m. n == m) l)) (sym same) ∙ ap not (any_mapped (λ t. solid_number syntax t.0) n numbers)
+named_count : (reach : Reach) (ps qs : List Part) (hs : List Hole) → AreNamed reach ps qs hs → length ps ≡ length hs
+named_count reach [] [] [] named = refl
+named_count reach (p ∷ ps) (q ∷ qs) (h ∷ hs) (here, named) = omega (arith, named_count reach ps qs hs named)
+named_count reach _ _ _ named = absurd named
 
 -- ** What is read.
 
@@ -135,11 +136,11 @@ read_told reach short long read utf8 long_utf8 alone long_alone front some few r
     let parts = parts_of reach short long read is told in
     let ps : List Part = parts.cut.parts in
     let holes : Holes = holes_in 0 ps parts.put_is.holes in
-    let numbered : map (λ (name : Name). solid_before name.at told.raw) (names_from 0 ss) ≡ numbers_of 0 ps =
+    let numbered : map (λ (name : Name). solid_before name.at told.raw) (names_from 0 ss) ≡ name_places 0 ps =
     names_numbered 0 0 told.raw told.raw ps parts.put_is.long ss is.last parts.cut.after parts.cut.are parts.cut.lexes parts.put_is.matched
     (ap tokens (sym parts.short_is) ∙ told.lexes) (behind_none told.raw) in
-    let held : AreHeld read.tree told.numbers holes =
-    tokens_held read.tree told.numbers holes (numbers_of 0 ps) (λ n. numbers_held reach 0 ps parts.put_is.long parts.put_is.holes n parts.put_is.named)
+    let held : AreNames read.tree told.numbers holes =
+    named_by_parts read.tree told.numbers ps parts.put_is.holes told.are.solid (named_count reach ps parts.put_is.long parts.put_is.holes parts.put_is.named)
     (told.are.same ∙ ap (map (λ (name : Name). solid_before name.at told.raw)) is.names_are ∙ numbered) in
     let filled = long_read reach holes ps parts.put_is.long is.last parts.cut.after short.text long read.tree parts.paired (alone ∙ parts.short_is)
     (long_alone ∙ parts.long_is) (subst IsUtf8 (sym alone) utf8) few reads (told.is_core holes held) in

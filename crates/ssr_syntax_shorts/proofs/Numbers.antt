@@ -21,34 +21,11 @@ use Rattle.ssr_syntax_places.specs.Insides.{with_inside, IsLexed}
 use Rattle.ssr_syntax_places.specs.LongTexts.{AreNamed, holes_in}
 use Rattle.ssr_syntax_places.specs.Woven.{Part, woven, begins_seam, AreWoven}
 use Rattle.ssr_syntax_places.proofs.Shared.{woven_lexes}
-use Rattle.ssr_syntax_shorts.specs.Held.{solid_number}
+use Rattle.ssr_syntax_shorts.specs.Names.{name_places}
 use Rattle.ssr_syntax_shorts.specs.Shorts.{Stretch, names_from}
 use Rattle.ssr_syntax_shorts.specs.Told.{solid_before}
-use Rattle.ssr_syntax_shorts.specs.declared.names.Name.{Name}
+use Rattle.ssr_syntax_shorts.specs.declared.stand_ins.Name.{Name}
 use Rattle.ssr_syntax_shorts.proofs.PutNames.{AreMatched}
-
--- the numbers of the names, where the first token has the number `at`
-abbrev pub numbers_of : ℕ → List Part → List ℕ
-numbers_of at [] = []
-numbers_of at (p ∷ ps) = (at + length (solid_tokens p.before)) ∷ numbers_of ((at + length (solid_tokens p.before)) + 1) ps
-
--- ** What stands for something is what these numbers name.
-
-pub numbers_held : (reach : Reach) (at : ℕ) (ps qs : List Part) (hs : List Hole) (n : ℕ) → AreNamed reach ps qs hs
-    → is_no_hole (holes_in at ps hs n) ≡ not (list_any (λ m. n == m) (numbers_of at ps))
-numbers_held reach at [] [] [] n named = refl
-numbers_held reach at (p ∷ ps) (q ∷ qs) (h ∷ hs) n (here, named) =
-    let place : ℕ = at + length (solid_tokens p.before) in
-    either (n == place) (holes_in (place + 1) ps hs n) (list_any (λ m. n == m) (numbers_of (place + 1) ps))
-    (numbers_held reach (place + 1) ps qs hs n named) where
-      either : (b : Bool) (o : Option Hole) (c : Bool) → is_no_hole o ≡ not c → is_no_hole (if b then Some h else o) ≡ not (b || c)
-      either true o c e = refl
-      either false o c e = e
-numbers_held reach at _ _ _ n named = absurd named
-
-pub any_mapped : (g : TokenNo → ℕ) (n : ℕ) (ts : List TokenNo) → list_any (λ m. n == m) (map g ts) ≡ list_any (λ t. n == g t) ts
-any_mapped g n [] = refl
-any_mapped g n (t ∷ ts) = ap (λ b. (n == g t) || b) (any_mapped g n ts)
 
 -- ** Tokens in front of a byte.
 
@@ -161,7 +138,7 @@ number_cons n m ns ms e f = ap (λ k. k ∷ ns) e ∙ ap (λ l. m ∷ l) f
 
 pub names_numbered : (at base : ℕ) (all raw : List RawToken) (ps qs : List Part) (ss : List Stretch) (last : List ℕ) (after : List RawToken)
     → AreWoven ps last → tokens last ≡ Some after → AreMatched ps qs ss → tokens (woven ps last) ≡ Some raw → AreBehind at base all raw
-    → map (λ (name : Name). solid_before name.at all) (names_from at ss) ≡ numbers_of base ps
+    → map (λ (name : Name). solid_before name.at all) (names_from at ss) ≡ name_places base ps
 names_numbered at base all raw [] [] [] last after woven_is lexes matched raw_is behind = refl
 names_numbered at base all raw (p ∷ ps) (q ∷ qs) (s ∷ ss) last after (utf8, opens, front_is, name_is, seam, are) lexes (here, matched) raw_is behind =
     let (rest, rest_lexes, rest_solid, rest_pieces) = woven_lexes ps last after are lexes in
@@ -181,7 +158,7 @@ names_numbered at base all raw (p ∷ ps) (q ∷ qs) (s ∷ ss) last after (utf8
     ap (solid_before (a + (length p.inside + byte))) whole ∙ part_before p byte rest front_is name_is in
     ap (λ n. solid_before n all) place ∙ behind (a + (length p.inside + byte)) ∙ omega (arith, part, single) in
     number_cons (solid_before (at + (length s.front + 1)) all) (base + length (solid_tokens p.before))
-    (map (λ (n : Name). solid_before n.at all) (names_from next ss)) (numbers_of next_base ps)
+    (map (λ (n : Name). solid_before n.at all) (names_from next ss)) (name_places next_base ps)
     (ap (λ n. solid_before (at + n) all) front ∙ behind a ∙ ap (λ n. base + n) name)
     (names_numbered next next_base all rest ps qs ss last after are lexes matched rest_lexes further)
 names_numbered at base all raw _ _ _ last after woven_is lexes matched raw_is behind = absurd matched

@@ -32,7 +32,7 @@ use Rattle.ssr_syntax_places.specs.Woven.{Part, Cut, woven, begins_seam, AreWove
 use Rattle.ssr_syntax_places.proofs.Shared.{read_alone}
 use Rattle.ssr_syntax_shorts.specs.Shorts.{Stretch, the_name, opening, closes, short_text, long_text, names_from, IsInside, AreStretches}
 use Rattle.ssr_syntax_shorts.specs.Told.{IsCut}
-use Rattle.ssr_syntax_shorts.specs.declared.names.Name.{Name}
+use Rattle.ssr_syntax_shorts.specs.declared.stand_ins.Name.{Name}
 use Rattle.ssr_syntax_shorts.proofs.Joined.{utf8_ascii}
 
 -- ** Cuts.

@@ -7,7 +7,7 @@ use Rattle.ssr_syntax_kinds.specs.declared.reach.Reach.{Reach}
 use Rattle.ssr_syntax_places.specs.Spans.{inside_at, IsSamePlace, BeginsHere, EndsHere, AreSameBytes}
 use Rattle.ssr_syntax_places.specs.Woven.{Part}
 use Rattle.ssr_syntax_shorts.specs.Shorts.{Stretch, names_from, IsInside, AreStretches, moved, long_place, IsOutside}
-use Rattle.ssr_syntax_shorts.specs.declared.names.Name.{Name}
+use Rattle.ssr_syntax_shorts.specs.declared.stand_ins.Name.{Name}
 use Rattle.ssr_syntax_shorts.proofs.Joined.{names_moved}
 use Rattle.ssr_syntax_shorts.proofs.PutNames.{IsMatched, AreMatched}
 

@@ -15,9 +15,9 @@ use Rattle.ssr_syntax_tree.proofs.Shared.{length-nodes_of, length-tokens_in}
 use Rattle.ssr_syntax_forms.specs.Kinds.{mem}
 use Rattle.ssr_syntax_places.specs.PlainCore.{of_two, of_three, size_of_kind, solid_size}
 use Rattle.ssr_syntax_places.specs.Spans.{has_node_at}
-use Rattle.ssr_syntax_shorts.specs.Held.{size_of_row, solid_number}
+use Rattle.ssr_syntax_shorts.specs.Names.{place_of}
 use Rattle.ssr_syntax_shorts.specs.Told.{IsCut, AreTokens, solid_before}
-use Rattle.ssr_syntax_shorts.specs.declared.names.Name.{Name}
+use Rattle.ssr_syntax_shorts.specs.declared.stand_ins.Name.{Name}
 
 -- ** A text without white space around it.
 
@@ -103,7 +103,7 @@ size_append : (xs ys : List Token) → solid_size (xs ++ ys) ≡ solid_size xs +
 size_append [] ys = omega arith
 size_append (x ∷ xs) ys = omega (arith, size_append xs ys)
 
-pub number_more : (tree : Syntax) (t : ℕ) → HasToken tree t → solid_number tree (t + 1) ≡ solid_number tree t + size_of_row (token_of tree t)
+pub number_more : (tree : Syntax) (t : ℕ) → HasToken tree t → place_of tree (t + 1) ≡ place_of tree t + solid_size (token_of tree t ∷ [])
 unfolding token_of
 number_more tree t has =
     let ts : List Token = tokens_of tree in
@@ -112,25 +112,27 @@ number_more tree t has =
     let same : get_or ts t d ≡ token_of tree t =
     get_or_default ts t d _ (omega (arith, has, length-tokens_in tree.children)) ∙ sym (unwrap_or-slice_get ts t _) in
     ap solid_size one ∙ size_append (take t ts) (get_or ts t d ∷ [])
-    ∙ (let last : solid_size (get_or ts t d ∷ []) ≡ size_of_row (token_of tree t) = omega (arith, ap size_of_row same) in
-    ap (λ n. solid_size (take t ts) + n) last)
+    ∙ ap (λ (u : Token). solid_size (take t ts) + solid_size (u ∷ [])) same
 
 -- ** Names that are tokens.
 
 pub tokens_none : (syntax : Syntax) (raw : List RawToken) → AreTokens syntax raw [] []
-tokens_none syntax raw = record { cuts = All-nil (IsCut raw); same = refl }
+tokens_none syntax raw = record { cuts = All-nil (IsCut raw); solid = All-nil (λ (t : TokenNo). is_trivia (token_of syntax t.0).kind ≡ false); same = refl }
 
 pub tokens_more : (syntax : Syntax) (raw : List RawToken) (names : List Name) (tokens : List TokenNo) (i : ℕ) (name : Name) (token : TokenNo)
-    → i < length names → name ≡ get_or names i name → IsCut raw name → solid_number syntax token.0 ≡ solid_before name.at raw
+    → i < length names → name ≡ get_or names i name → IsCut raw name → is_trivia (token_of syntax token.0).kind ≡ false
+    → place_of syntax token.0 ≡ solid_before name.at raw
     → AreTokens syntax raw (take i names) tokens → AreTokens syntax raw (take (i + 1) names) (tokens ++ (token ∷ []))
-tokens_more syntax raw names tokens i name token less is cut same are =
-    let f : TokenNo → ℕ = λ t. solid_number syntax t.0 in
+tokens_more syntax raw names tokens i name token less is cut solid same are =
+    let f : TokenNo → ℕ = λ t. place_of syntax t.0 in
     let g : Name → ℕ = λ n. solid_before n.at raw in
     let P : Name → Type 0 = IsCut raw in
+    let Q : TokenNo → Type 0 = λ t. is_trivia (token_of syntax t.0).kind ≡ false in
     let one : take (i + 1) names ≡ take i names ++ (name ∷ []) =
     take_more names i name less ∙ ap (λ n. take i names ++ (n ∷ [])) (sym is) in
     record {
       cuts = subst (All P) (sym one) (All-append P (take i names) (name ∷ []) are.cuts (All-cons P name [] cut (All-nil P)));
+      solid = All-append Q tokens (token ∷ []) are.solid (All-cons Q token [] solid (All-nil Q));
       same = map_push f tokens token
           ∙ ap (λ l. l ++ (f token ∷ [])) are.same
           ∙ ap (λ n. map g (take i names) ++ (n ∷ [])) same

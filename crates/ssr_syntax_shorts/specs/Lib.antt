@@ -1,4 +1,4 @@
 pub mod Shorts
-pub mod Held
+pub mod Names
 pub mod Told
 pub mod ShortsCode

@@ -7,7 +7,7 @@ use Rattle.ssr_syntax_tree.specs.Syntax.{Syntax, depth_of}
 use Rattle.ssr_syntax.specs.Reading.{fragment_reading_of, trimmed, trimmed_front, FitsFragmentOf}
 use Rattle.ssr_syntax_places.specs.Insides.{with_inside}
 use Rattle.ssr_syntax_places.specs.Spans.{has_node_at}
-use Rattle.ssr_syntax_shorts.specs.declared.names.Name.{Name}
+use Rattle.ssr_syntax_shorts.specs.declared.stand_ins.Name.{Name}
 
 -- ** What a short text is.
 

@@ -4,8 +4,8 @@ use Rattle.std.specs.Coded.{Coded, code_by, coded×, coded_list, coded_ℕ}
 use Rattle.ssr_syntax_tree.specs.Syntax.{Syntax}
 use Rattle.ssr_syntax_tree.specs.SyntaxCode.{syntax_code}
 use Rattle.ssr_syntax_shorts.specs.Shorts.{ShortRead}
-use Rattle.ssr_syntax_shorts.specs.contracts.names.Name as name
-use Rattle.ssr_syntax_shorts.specs.declared.names.Name.{Name}
+use Rattle.ssr_syntax_shorts.specs.contracts.stand_ins.Name as name
+use Rattle.ssr_syntax_shorts.specs.declared.stand_ins.Name.{Name}
 
 abbrev pub read_code : Coded ShortRead
 read_code =

@@ -5,12 +5,13 @@ use Rattle.ssr_syntax_lex.specs.Seams.{has_token_at}
 use Rattle.ssr_syntax_lex.specs.Tokens.{tokens}
 use Rattle.ssr_syntax_lex.specs.declared.tokens.RawToken.{RawToken}
 use Rattle.ssr_syntax_tree.specs.Syntax.{Syntax, depth_of, most_deep}
+use Rattle.ssr_syntax_tree.specs.Places.{token_of}
 use Rattle.ssr_syntax_tree.specs.declared.number.TokenNo.{TokenNo}
 use Rattle.ssr_syntax_places.specs.Core.{Holes}
 use Rattle.ssr_syntax_places.specs.PlainCore.{is_core_tree}
-use Rattle.ssr_syntax_shorts.specs.Held.{solid_number, AreHeld}
+use Rattle.ssr_syntax_shorts.specs.Names.{place_of, AreNames}
 use Rattle.ssr_syntax_shorts.specs.Shorts.{ShortText, ShortRead}
-use Rattle.ssr_syntax_shorts.specs.declared.names.Name.{Name}
+use Rattle.ssr_syntax_shorts.specs.declared.stand_ins.Name.{Name}
 
 -- the characters beside a name are tokens of the text
 abbrev pub IsCut : List RawToken → Name → Type 0
@@ -23,7 +24,8 @@ solid_before byte raw = count_by (λ t. not (is_trivia t.kind) && nat_lt t.range
 -- the names are tokens of a tree, with the numbers that they have among the raw tokens
 pub record AreTokens (syntax : Syntax) (raw : List RawToken) (names : List Name) (numbers : List TokenNo) : Type 0 where
   pub cuts : All (IsCut raw) names
-  pub same : map (λ t. solid_number syntax t.0) numbers ≡ map (λ name. solid_before name.at raw) names
+  pub solid : All (λ (t : TokenNo). is_trivia (token_of syntax t.0).kind ≡ false) numbers
+  pub same : map (λ (t : TokenNo). place_of syntax t.0) numbers ≡ map (λ name. solid_before name.at raw) names
 
 -- The tree is core, with names in parentheses that are tokens, and the long text's tree isn't too deep.
 pub record IsTold (short : ShortText) (read : ShortRead) : Type 0 where
@@ -32,6 +34,6 @@ pub record IsTold (short : ShortText) (read : ShortRead) : Type 0 where
   pub lexes : tokens short.text ≡ Some raw
   pub numbers : List TokenNo
   pub are : AreTokens read.tree raw short.names numbers
-  pub is_core : (holes : Holes) → AreHeld read.tree numbers holes → is_core_tree holes false 12 read.tree ≡ true
+  pub is_core : (holes : Holes) → AreNames read.tree numbers holes → is_core_tree holes false 12 read.tree ≡ true
   pub deep : depth_of read.tree + short.depth ≤ read.depth
   pub shallow : read.depth ≤ most_deep

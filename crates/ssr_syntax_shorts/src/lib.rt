@@ -2,12 +2,12 @@
 //! which bytes of the long one are nodes.
 #![tactic(auto)]
 
-pub mod laws;
-mod names;
 mod reading;
 mod short;
+pub mod short_laws;
+mod stand_ins;
 mod walk;
 
-pub use names::Name;
 pub use reading::ShortTree;
 pub use short::Short;
+pub use stand_ins::Name;

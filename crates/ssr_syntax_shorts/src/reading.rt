@@ -1,5 +1,6 @@
 //! What is read of a short text in the place of the long one.
-ghost use Rattle.std.specs.Prelude.{◌≡◌, ◌+◌, ◌-◌, ◌<◌, ◌≤◌, ◌==◌, ◌&&◌, ℕ, List, IfOk, IfSome, IsTrue, Some};
+ghost use Rattle.std.specs.Prelude.{◌≡◌, ◌+◌, ◌-◌, ◌<◌, ◌≤◌, ◌==◌, ◌&&◌, ℕ, List, [], ◌∷◌, false, IfOk, IfSome, IsTrue, Some};
+ghost use Rattle.ssr_syntax_kinds.specs.Kinds.{is_trivia};
 ghost use Rattle.ssr_syntax_kinds.specs.declared.reach.Reach.{Reach};
 ghost use Rattle.ssr_syntax_lex.specs.Seams.{has_token_at};
 ghost use Rattle.ssr_syntax_lex.specs.Tokens.{tokens};
@@ -7,13 +8,13 @@ ghost use Rattle.ssr_syntax_tree.specs.Places.{HasToken, token_of};
 ghost use Rattle.ssr_syntax_tree.specs.Syntax.{depth_of};
 ghost use Rattle.ssr_syntax_forms.specs.Kinds.{mem};
 ghost use Rattle.ssr_syntax.specs.Reading.{trimmed, trimmed_front};
-ghost use Rattle.ssr_syntax_places.specs.PlainCore.{of_three, of_two, size_of_kind};
+ghost use Rattle.ssr_syntax_places.specs.PlainCore.{of_three, of_two, size_of_kind, solid_size};
 ghost use Rattle.ssr_syntax_places.specs.Spans.{has_node_at};
-ghost use Rattle.ssr_syntax_shorts.specs.Held.{size_of_row, solid_number};
+ghost use Rattle.ssr_syntax_shorts.specs.Names.{place_of};
 ghost use Rattle.ssr_syntax_shorts.specs.Shorts.{IsOutside, IsReadOf, IsShort, long_place};
 ghost use Rattle.ssr_syntax_shorts.specs.Told.{AreTokens, IsCut, IsTold, solid_before};
 
-use crate::names::Name;
+use crate::stand_ins::Name;
 use crate::short::Short;
 use crate::walk::is_core;
 use ssr_syntax::{Fragment, Reach, SyntaxError, fragment_of};
@@ -180,7 +181,7 @@ fn is_of_two(kind: SyntaxKind) -> bool
 /// How many tokens the grammar reads of one of the tree's.
 fn size_of(tree: &Tree, token: TokenNo) -> usize
     requires { HasToken tree.now token.0 }
-    ensures value { result ≡ size_of_row (token_of tree.now token.0) }
+    ensures value { result ≡ solid_size (token_of tree.now token.0 ∷ []) }
     ensures few { result ≤ 3 }
 {
     let kind = tree.token_kind(token);
@@ -192,9 +193,9 @@ fn size_of(tree: &Tree, token: TokenNo) -> usize
 }
 
 /// The number of a token among those that the grammar reads.
-fn solid_number(tree: &Tree, token: TokenNo) -> usize
+fn place_of(tree: &Tree, token: TokenNo) -> usize
     requires { HasToken tree.now token.0 }
-    ensures { result ≡ solid_number tree.now token.0 }
+    ensures { result ≡ place_of tree.now token.0 }
 {
     let mut number = 0;
     for before in 0..token.0 {
@@ -203,16 +204,21 @@ fn solid_number(tree: &Tree, token: TokenNo) -> usize
     number
 }
 
-/// The token of the tree at a byte, if it has the same number there as among the raw tokens.
+/// The token of the tree at a byte, if it is neither white space nor a comment and has the same number there as among the raw
+/// tokens.
 fn name_token(tree: &Tree, raw: &[RawToken], name: Name) -> Option<TokenNo>
     ensures cut { IfSome result (λ _. IsCut raw.now name) }
-    ensures same { IfSome result (λ token. solid_number tree.now token.0 ≡ solid_before name.at raw.now) }
+    ensures solid { IfSome result (λ token. is_trivia (token_of tree.now token.0).kind ≡ false) }
+    ensures same { IfSome result (λ token. place_of tree.now token.0 ≡ solid_before name.at raw.now) }
 {
     if name.at > u32::MAX as usize || !is_cut(raw, name) {
         return None;
     }
     let token = tree.token_at(name.at as u32)?;
-    if solid_number(tree, token) == solid_before(raw, name.at) {
+    if tree.token_kind(token).is_trivia() {
+        return None;
+    }
+    if place_of(tree, token) == solid_before(raw, name.at) {
         Some(token)
     } else {
         None

@@ -2,7 +2,7 @@
 ghost use Rattle.std.specs.Prelude.{◌≡◌, ◌++◌, [], ◌∷◌, OnOk, IfOk, IfSome, map};
 ghost use Rattle.ssr_syntax_shorts.specs.Shorts.{IsReadOf, IsShort, as_it_is, in_parentheses, joined, moved};
 
-use crate::names::{Name, moved};
+use crate::stand_ins::{Name, moved};
 use crate::reading::{ShortTree, read};
 use ssr_syntax::Reach;
 use std::alloc::{AllocError, Global};

@@ -1,7 +1,7 @@
 use Rattle.std.proofs.Common.{arith}
 use Rattle.ssr_syntax_tree.specs.Places.{HasToken}
 use Rattle.ssr_syntax_shorts.proofs.Steps.{number_more}
-use Rattle.ssr_syntax_shorts.proofs.reading.solid_number.Goals as goal
+use Rattle.ssr_syntax_shorts.proofs.reading.place_of.Goals as goal
 
 pub loop-before-preserved : goal.loop-before-preserved
 loop-before-preserved c =

@@ -1,5 +1,5 @@
 use Rattle.ssr_syntax_shorts.proofs.Joined.{is_as_it_is, is_in_parentheses, is_joined, joined_outside, joined_places}
-use Rattle.ssr_syntax_shorts.proofs.laws.shorts.Goals as goal
+use Rattle.ssr_syntax_shorts.proofs.short_laws.shorts.Goals as goal
 
 pub returns-clause-as_it_is : goal.returns-clause-as_it_is
 returns-clause-as_it_is c = is_as_it_is
