@@ -1,0 +1,6 @@
+mod Places
+mod Names
+mod SolidChildren
+mod Enough
+mod Below
+mod PathNames
