@@ -171,8 +171,8 @@ module _ (s : Syntax) (names : List TokenNo) (node : NodeNo) (callable : Bool) (
       → ((holes : Holes) → AreNames s names holes → MeetsBy s holes n right.0 → MeetsBy s holes (need.Operand callable most) node.0)
       → AreEnough s names (need.Operand callable most) node.0 (asked ∷ [])
   one_enough right asked n is same wants makes = record {
-    has = one_has _ asked (subst (λ (m : NodeNo). HasNode s m.0) (sym same) is.has);
-    below = one_has _ asked (subst (λ (m : NodeNo). size_of (node_of s m.0) < size_of (node_of s node.0)) (sym same) is.fewer);
+    has = one_has (λ (x : Asked). HasNode s x.node.0) asked (subst (λ (m : NodeNo). HasNode s m.0) (sym same) is.has);
+    below = one_has (λ (x : Asked). size_of (node_of s x.node.0) < size_of (node_of s node.0)) asked (subst (λ (m : NodeNo). size_of (node_of s m.0) < size_of (node_of s node.0)) (sym same) is.fewer);
     meets = λ holes are all.
         makes holes are
         (subst (λ (m : NodeNo). MeetsBy s holes n m.0) same
@@ -184,9 +184,9 @@ module _ (s : Syntax) (names : List TokenNo) (node : NodeNo) (callable : Bool) (
       → ((holes : Holes) → AreNames s names holes → MeetsBy s holes n left.0 → MeetsBy s holes m right.0 → MeetsBy s holes (need.Operand callable most) node.0)
       → AreEnough s names (need.Operand callable most) node.0 (a ∷ b ∷ [])
   two_enough left right a b n m is also same wants other needs makes = record {
-    has = two_have _ a b (subst (λ (p : NodeNo). HasNode s p.0) (sym same) is.has) (subst (λ (p : NodeNo). HasNode s p.0) (sym other) also.has);
+    has = two_have (λ (x : Asked). HasNode s x.node.0) a b (subst (λ (p : NodeNo). HasNode s p.0) (sym same) is.has) (subst (λ (p : NodeNo). HasNode s p.0) (sym other) also.has);
     below =
-        two_have _ a b
+        two_have (λ (x : Asked). size_of (node_of s x.node.0) < size_of (node_of s node.0)) a b
         (subst (λ (p : NodeNo). size_of (node_of s p.0) < size_of (node_of s node.0)) (sym same) is.fewer)
         (subst (λ (p : NodeNo). size_of (node_of s p.0) < size_of (node_of s node.0)) (sym other) also.fewer);
     meets = λ holes are all.

@@ -4,3 +4,6 @@ mod SolidChildren
 mod Enough
 mod Below
 mod PathNames
+mod Listing
+mod Walked
+mod NamedByParts

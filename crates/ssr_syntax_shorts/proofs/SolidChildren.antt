@@ -79,14 +79,17 @@ solid_all P (token_part t token ∷ parts) all =
 solid_all P (node_part node ∷ parts) all =
     All-cons P (node_part node) (solid_parts parts) (All-head P (node_part node) parts all) (solid_all P parts (All-tail P (node_part node) parts all))
 
-pub laid : (s : Syntax) (n : ℕ) (elements : List Element) → HasNode s n → AreSolid s n elements → Laid s n (map (part_of s) elements)
-laid s n elements has solid =
+pub laid_node : (s : Syntax) (n : ℕ) → HasNode s n → Laid s n (solid_parts (parts_of (node_of s n)))
+laid_node s n has =
     let node : Node = node_of s n in
-    subst (Laid s n) (sym solid.parts) (record {
+    record {
       forest = forest_is node.number (1 + node.number) node.first node.children;
       behind = are_behind s node.number (1 + node.number) node.first node.children (node_lies s n has);
       children = solid_all (IsChild s n) (parts_of node) (children_known s n has);
-    })
+    }
+
+pub laid : (s : Syntax) (n : ℕ) (elements : List Element) → HasNode s n → AreSolid s n elements → Laid s n (map (part_of s) elements)
+laid s n elements has solid = subst (Laid s n) (sym solid.parts) (laid_node s n has)
 
 -- fewer nodes are below a child
 pub child_smaller : (s : Syntax) (n m : ℕ) → HasNode s n → HasNode s m → IsChild s n (node_part (node_of s m)) → size_of (node_of s m) < size_of (node_of s n)
@@ -115,7 +118,7 @@ pub shaping_first : (s : Syntax) (n : ℕ) (so_far : Shape) (left behind : List 
 shaping_first s n so_far left behind child is steps = All-head (HasElement s) child behind (subst (All (HasElement s)) steps is.to_come)
 
 -- a child that is passed over, or not
-solid_step : (part : Part) (parts : List Part) → solid_parts (part ∷ parts) ≡ solid_parts (part ∷ []) ++ solid_parts parts
+pub solid_step : (part : Part) (parts : List Part) → solid_parts (part ∷ parts) ≡ solid_parts (part ∷ []) ++ solid_parts parts
 solid_step (token_part t token) parts = by_kind (is_trivia token.kind) where
   by_kind : (b : Bool) → (if b then solid_parts parts else token_part t token ∷ solid_parts parts)
       ≡ (if b then [] else token_part t token ∷ []) ++ solid_parts parts

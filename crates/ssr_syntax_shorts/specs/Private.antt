@@ -2,3 +2,4 @@
 pub mod Marks
 pub mod Shapes
 pub mod Operands
+pub mod Arguments

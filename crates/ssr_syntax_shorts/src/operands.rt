@@ -112,7 +112,7 @@ fn operand(node: NodeNo, callable: bool, most: u8) -> Asked
 }
 
 /// A node that stands between brackets.
-fn inside(node: NodeNo) -> Asked
+pub(crate) fn inside(node: NodeNo) -> Asked
     ensures node { result.node ≡ node }
     ensures need { result.need ≡ Need.Inside }
 {

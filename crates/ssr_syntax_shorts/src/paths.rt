@@ -1,12 +1,13 @@
 //! Paths of names.
-ghost use Rattle.std.specs.Prelude.{IsTrue};
-ghost use Rattle.ssr_syntax_tree.specs.Places.{HasNode};
-ghost use Rattle.ssr_syntax_shorts.specs.Private.Marks.{IsNameRef, IsPathAt, IsSegment};
+ghost use Rattle.std.specs.Prelude.{◌∷◌, [], IsTrue};
+ghost use Rattle.ssr_syntax_kinds.specs.Kinds.{same_kind};
+ghost use Rattle.ssr_syntax_tree.specs.Places.{HasNode, HasToken, node_of};
+ghost use Rattle.ssr_syntax_shorts.specs.Private.Marks.{IsMark, IsNameRef, IsPathAt, IsSegment};
 
 use crate::shapes::{Shape, shape_of};
 use crate::tokens::Walk;
 use ssr_syntax_kinds::SyntaxKind;
-use ssr_syntax_tree::{Element, NodeNo};
+use ssr_syntax_tree::{Element, NodeNo, TokenNo};
 
 /// What a segment of a path may be.
 const PATH_NAMES: &[SyntaxKind] = &[
@@ -43,6 +44,20 @@ fn is_segment(walk: &Walk<'_>, node: NodeNo) -> bool
     }
 }
 
+/// Whether what stands behind a path goes on with it: `::` and a name.
+fn goes_on(walk: &Walk<'_>, path: NodeNo, colons: TokenNo, name: NodeNo) -> bool
+    requires path { HasNode walk.now.tree.now path.0 }
+    requires colons { HasToken walk.now.tree.now colons.0 }
+    requires name { HasNode walk.now.tree.now name.0 }
+    ensures path { IsTrue result → IsTrue (same_kind (node_of walk.now.tree.now path.0).kind SyntaxKind.PATH) }
+    ensures colons { IsTrue result → IsMark walk.now.tree.now walk.now.names.now (SyntaxKind.COLON2 ∷ []) colons.0 }
+    ensures name { IsTrue result → IsSegment walk.now.tree.now walk.now.names.now name.0 }
+{
+    walk.tree.kind(path).is(SyntaxKind::PATH)
+        && walk.is_mark(colons, &[SyntaxKind::COLON2])
+        && is_segment(walk, name)
+}
+
 /// Whether what is below a node is a path of names.
 pub(crate) fn is_path(walk: &Walk<'_>, node: NodeNo) -> bool
     requires { HasNode walk.now.tree.now node.0 }
@@ -51,10 +66,7 @@ pub(crate) fn is_path(walk: &Walk<'_>, node: NodeNo) -> bool
     match shape_of(walk.tree, node) {
         Some(Shape::One(Element::Node(name))) => is_segment(walk, name),
         Some(Shape::Three(Element::Node(path), Element::Token(colons), Element::Node(name))) => {
-            walk.tree.kind(path).is(SyntaxKind::PATH)
-                && walk.is_mark(colons, &[SyntaxKind::COLON2])
-                && is_segment(walk, name)
-                && is_path(walk, path)
+            goes_on(walk, path, colons, name) && is_path(walk, path)
         }
         _ => false,
     }

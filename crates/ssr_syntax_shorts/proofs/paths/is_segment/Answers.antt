@@ -1,4 +1,4 @@
-use Rattle.std.proofs.Common.{◌≡◌, true, List, [], ◌∷◌, subst}
+use Rattle.std.proofs.Common.{◌≡◌, true, List, [], ◌∷◌, ap, subst, sym, ◌∙◌}
 use Rattle.ssr_syntax_kinds.specs.Kinds.{same_kind}
 use Rattle.ssr_syntax_kinds.specs.declared.kinds.SyntaxKind.TheVariants as k
 use Rattle.ssr_syntax_tree.specs.declared.number.Element.TheVariants as element
@@ -14,5 +14,6 @@ returns-then-is c is =
     let w = c.in-Some-One-Node in
     let same : w.field-0 ≡ shape.One (element.Node w.name) = cc in
     let solid = subst (λ x. AreSolid s c.args.node.0 (elements_in x)) same w.ensures in
-    let kind : same_kind (kind_at s c.args.node) k.PATH_SEGMENT ≡ true = cc in
+    let kind : same_kind (kind_at s c.args.node) k.PATH_SEGMENT ≡ true =
+    ap (λ x. same_kind x k.PATH_SEGMENT) (sym c.kind.ensures) ∙ sym c.is.ensures.same ∙ c.if-is.true in
     segment_by s c.args.walk.now.names.now c.args.node c.requires w.name solid kind (c.is_name_ref.ensures is)
