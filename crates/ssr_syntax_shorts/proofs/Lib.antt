@@ -5,5 +5,4 @@ mod Enough
 mod Below
 mod PathNames
 mod Listing
-mod Walked
 mod NamedByParts
