@@ -1,6 +1,6 @@
 -- Each shape of a core node: it is core if the nodes below it are.
-use Rattle.std.proofs.Common.{◌≡◌, ℕ, ◌+◌, ◌-◌, ◌<◌, ◌≤◌, nat_eq, nat_le, nat_lt, Bool, true, false, not, ◌&&◌, ◌||◌, List, [], ◌∷◌, All, length, map, Some, None, Option, refl, sym, ap, subst, ◌∙◌, arith}
-use Rattle.std.specs.Prelude.{⊤, if◌then◌else◌, suc}
+use Rattle.std.proofs.Common.{◌≡◌, ℕ, ◌+◌, ◌<◌, ◌≤◌, Bool, true, false, ◌||◌, List, [], ◌∷◌, All, length, Some, None, Option, refl, sym, ap, subst, ◌∙◌, arith}
+use Rattle.std.specs.Prelude.{if◌then◌else◌, suc}
 use Rattle.std.proofs.lemmas.Bool.{and_from, and_parts, le-leb, lt-ltb}
 use Rattle.std.proofs.lemmas.List.Elements.{All-nil, All-cons, All-head, All-tail}
 use Rattle.std.proofs.Math.Bool.{or-false}
@@ -9,13 +9,10 @@ use Rattle.ssr_syntax_kinds.specs.declared.kinds.SyntaxKind.{SyntaxKind}
 use Rattle.ssr_syntax_kinds.specs.declared.kinds.SyntaxKind.TheVariants as k
 use Rattle.ssr_syntax_kinds.proofs.Shared.{same_kind-equal}
 use Rattle.ssr_syntax_tree.specs.Syntax.{Syntax}
-use Rattle.ssr_syntax_tree.specs.Syntax as plain
-use Rattle.ssr_syntax_tree.specs.Places.{Part, token_part, node_part, HasElement, HasNode, HasToken, node_of, part_of, token_of, size_of}
-use Rattle.ssr_syntax_tree.specs.declared.number.Element.{Element}
+use Rattle.ssr_syntax_tree.specs.Places.{Part, token_part, node_part, HasNode, node_of, token_of, size_of}
 use Rattle.ssr_syntax_tree.specs.declared.number.Element.TheVariants as element
 use Rattle.ssr_syntax_tree.specs.declared.number.NodeNo.{NodeNo}
 use Rattle.ssr_syntax_tree.specs.declared.number.TokenNo.{TokenNo}
-use Rattle.ssr_syntax_tree.proofs.Shared.{IsChild}
 use Rattle.ssr_syntax_forms.specs.declared.tokens.Token.{Token}
 use Rattle.ssr_syntax_forms.specs.Kinds.{mem}
 use Rattle.ssr_syntax_forms.specs.Trees.{Forest, done, leaf, tree, spell}
@@ -23,17 +20,16 @@ use Rattle.ssr_syntax_types.specs.Literals.{literals}
 use Rattle.ssr_syntax_types.specs.Paths.{path_names}
 use Rattle.ssr_syntax_exprs.specs.Expressions.{operators, prefix_operators, ranks, row}
 use Rattle.ssr_syntax.specs.Operands.{row_in}
-use Rattle.ssr_syntax_places.specs.Core.{Hole, Holes, are_spelled, arguments, binds_enough, core, is_ampersand, is_held, is_leaf, is_name_ref, is_no_hole, is_path, is_segment, member_names}
-use Rattle.ssr_syntax_places.specs.PlainCore.{forest_in, size_of_kind, tokens_like}
-use Rattle.ssr_syntax_places.specs.Standing.{is_token}
+use Rattle.ssr_syntax_places.specs.Core.{Hole, Holes, are_spelled, arguments, binds_enough, core, is_ampersand, is_leaf, is_name_ref, is_no_hole, is_path, is_segment, member_names}
+use Rattle.ssr_syntax_places.specs.PlainCore.{tokens_like}
 use Rattle.ssr_syntax_shorts.specs.Names.{place_of, AreNames}
 use Rattle.ssr_syntax_shorts.specs.declared.operands.Asked.{Asked}
 use Rattle.ssr_syntax_shorts.specs.declared.operands.Need.{Need}
 use Rattle.ssr_syntax_shorts.specs.declared.operands.Need.TheVariants as need
-use Rattle.ssr_syntax_shorts.specs.Private.Marks.{IsMark, IsNameRef, IsOwn, IsPathAt, IsSegment}
+use Rattle.ssr_syntax_shorts.specs.Private.Marks.{IsMark, IsNameRef, IsOwn, IsPathAt}
 use Rattle.ssr_syntax_shorts.specs.Private.Operands.{AreEnough, MeetsBy, are_arguments, meets}
 use Rattle.ssr_syntax_shorts.specs.Private.Shapes.{AreSolid}
-use Rattle.ssr_syntax_shorts.proofs.Names.{mark_by, mark_of_kinds}
+use Rattle.ssr_syntax_shorts.proofs.Names.{mark_of_kinds}
 use Rattle.ssr_syntax_shorts.proofs.SolidChildren.{Laid, forest_of, laid}
 use Rattle.ssr_syntax_shorts.proofs.Below.{kind_at, kids_at, front_of, mark_kind, mark_of, behind_token, behind_node, IsBelow, first_below, second_below, third_below, fourth_below, leaf_there}
 
@@ -205,13 +201,13 @@ module _ (s : Syntax) (names : List TokenNo) (node : NodeNo) (callable : Bool) (
       let second = behind_token s (front_of s node) operator.0 (token_of s operator.0) (node_part (node_of s right.0) ∷ []) l.behind in
       one_enough right asked (need.Operand callable 2) (second_below s node.0 (element.Token operator) right [] has solid) same wants
       (λ holes are met.
-        by_shape holes _ l
-        (and_from _ _
-        (and_from _ _ (le-leb 2 most le)
-        (core_there holes callable 2 (front_of s right) (front_of s node + length (mark_of s operator)) (kind_at s right) (kids_at s right) second.0 met))
-        (or_left _ _
-        (and_from _ _ kind
-        (leaf_there holes (place_of s operator.0) (front_of s node) prefix_operators (mark_kind s operator) (mark_of s operator) l.behind.0 (mark holes are))))))
+      by_shape holes _ l
+      (and_from _ _
+      (and_from _ _ (le-leb 2 most le)
+      (core_there holes callable 2 (front_of s right) (front_of s node + length (mark_of s operator)) (kind_at s right) (kids_at s right) second.0 met))
+      (or_left _ _
+      (and_from _ _ kind
+      (leaf_there holes (place_of s operator.0) (front_of s node) prefix_operators (mark_kind s operator) (mark_of s operator) l.behind.0 (mark holes are))))))
 
   pub reference_enough : (operator : TokenNo) (right : NodeNo) (asked : Asked) → AreSolid s node.0 (element.Token operator ∷ element.Node right ∷ []) → 2 ≤ most
       → same_kind (kind_at s node) k.REF_EXPR ≡ true → IsMark s names (k.AMP ∷ []) operator.0
@@ -221,14 +217,14 @@ module _ (s : Syntax) (names : List TokenNo) (node : NodeNo) (callable : Bool) (
       let second = behind_token s (front_of s node) operator.0 (token_of s operator.0) (node_part (node_of s right.0) ∷ []) l.behind in
       one_enough right asked (need.Operand callable 2) (second_below s node.0 (element.Token operator) right [] has solid) same wants
       (λ holes are met.
-        by_shape holes _ l
-        (and_from _ _
-        (and_from _ _ (le-leb 2 most le)
-        (core_there holes callable 2 (front_of s right) (front_of s node + length (mark_of s operator)) (kind_at s right) (kids_at s right) second.0 met))
-        (or_right _ _
-        (and_from _ _ kind
-        (ampersand_by holes (front_of s node) (mark_kind s operator)
-        (leaf_there holes (place_of s operator.0) (front_of s node) (k.AMP ∷ []) (mark_kind s operator) (mark_of s operator) l.behind.0 (mark holes are)))))))
+      by_shape holes _ l
+      (and_from _ _
+      (and_from _ _ (le-leb 2 most le)
+      (core_there holes callable 2 (front_of s right) (front_of s node + length (mark_of s operator)) (kind_at s right) (kids_at s right) second.0 met))
+      (or_right _ _
+      (and_from _ _ kind
+      (ampersand_by holes (front_of s node) (mark_kind s operator)
+      (leaf_there holes (place_of s operator.0) (front_of s node) (k.AMP ∷ []) (mark_kind s operator) (mark_of s operator) l.behind.0 (mark holes are)))))))
 
   -- ** In parentheses.
 
@@ -243,14 +239,14 @@ module _ (s : Syntax) (names : List TokenNo) (node : NodeNo) (callable : Bool) (
       let third = behind_node s behind within.0 (token_part closing.0 (token_of s closing.0) ∷ []) second in
       one_enough within asked need.Inside (second_below s node.0 (element.Token opening) within (element.Token closing ∷ []) has solid) same wants
       (λ holes are met.
-        by_shape holes _ l
-        (and_from _ _
-        (inside_there holes (front_of s within) behind (kind_at s within) (kids_at s within) second.0 met)
-        (and_from _ _ kind
-        (and_from _ _
-        (leaf_there holes (place_of s opening.0) (front_of s node) (k.L_PAREN ∷ []) (mark_kind s opening) (mark_of s opening) l.behind.0 (opens holes are))
-        (leaf_there holes (place_of s closing.0) (behind + length (spell (kids_at s within))) (k.R_PAREN ∷ []) (mark_kind s closing) (mark_of s closing) third.0
-        (closes holes are))))))
+      by_shape holes _ l
+      (and_from _ _
+      (inside_there holes (front_of s within) behind (kind_at s within) (kids_at s within) second.0 met)
+      (and_from _ _ kind
+      (and_from _ _
+      (leaf_there holes (place_of s opening.0) (front_of s node) (k.L_PAREN ∷ []) (mark_kind s opening) (mark_of s opening) l.behind.0 (opens holes are))
+      (leaf_there holes (place_of s closing.0) (behind + length (spell (kids_at s within))) (k.R_PAREN ∷ []) (mark_kind s closing) (mark_of s closing) third.0
+      (closes holes are))))))
 
   -- ** Between two operands.
 
@@ -271,16 +267,16 @@ module _ (s : Syntax) (names : List TokenNo) (node : NodeNo) (callable : Bool) (
       (third_below s node.0 (element.Node left) (element.Token operator) right [] has solid)
       same (wants ∙ ap (λ n. need.Operand false (4 + n)) (sym is)) other (needs ∙ ap (λ n. need.Operand callable (3 + n)) (sym is))
       (λ holes are met also.
-        by_shape holes _ l
-        (if_true (same_kind (kind_at s node) k.BIN_EXPR) _ _ kind
-        (and_from _ _
-        (and_from _ _
-        (and_from _ _ (lt-ltb r 9 (omega (arith, is, lt))) (le-leb (4 + r) most (omega (arith, is, le))))
-        (leaf_there holes (place_of s operator.0) behind (operators r) (mark_kind s operator) (mark_of s operator) second.0
-        (operator_mark s names operator rank is lt own holes are)))
-        (and_from _ _
-        (core_there holes false (4 + r) (front_of s left) (front_of s node) (kind_at s left) (kids_at s left) l.behind.0 met)
-        (core_there holes callable (3 + r) (front_of s right) (behind + length (mark_of s operator)) (kind_at s right) (kids_at s right) third.0 also)))))
+      by_shape holes _ l
+      (if_true (same_kind (kind_at s node) k.BIN_EXPR) _ _ kind
+      (and_from _ _
+      (and_from _ _
+      (and_from _ _ (lt-ltb r 9 (omega (arith, is, lt))) (le-leb (4 + r) most (omega (arith, is, le))))
+      (leaf_there holes (place_of s operator.0) behind (operators r) (mark_kind s operator) (mark_of s operator) second.0
+      (operator_mark s names operator rank is lt own holes are)))
+      (and_from _ _
+      (core_there holes false (4 + r) (front_of s left) (front_of s node) (kind_at s left) (kids_at s left) l.behind.0 met)
+      (core_there holes callable (3 + r) (front_of s right) (behind + length (mark_of s operator)) (kind_at s right) (kids_at s right) third.0 also)))))
 
   pub mut_enough : (ampersand word : TokenNo) (right : NodeNo) (asked : Asked)
       → AreSolid s node.0 (element.Token ampersand ∷ element.Token word ∷ element.Node right ∷ []) → 2 ≤ most
@@ -293,15 +289,15 @@ module _ (s : Syntax) (names : List TokenNo) (node : NodeNo) (callable : Bool) (
       let third = behind_token s behind word.0 (token_of s word.0) (node_part (node_of s right.0) ∷ []) second in
       one_enough right asked (need.Operand callable 2) (third_below s node.0 (element.Token ampersand) (element.Token word) right [] has solid) same wants
       (λ holes are met.
-        by_shape holes _ l
-        (and_from _ _
-        (and_from _ _ (le-leb 2 most le)
-        (core_there holes callable 2 (front_of s right) (behind + length (mark_of s word)) (kind_at s right) (kids_at s right) third.0 met))
-        (and_from _ _ kind
-        (and_from _ _
-        (ampersand_by holes (front_of s node) (mark_kind s ampersand)
-        (leaf_there holes (place_of s ampersand.0) (front_of s node) (k.AMP ∷ []) (mark_kind s ampersand) (mark_of s ampersand) l.behind.0 (mark holes are)))
-        (leaf_there holes (place_of s word.0) behind (k.MUT_KW ∷ []) (mark_kind s word) (mark_of s word) second.0 (mut holes are))))))
+      by_shape holes _ l
+      (and_from _ _
+      (and_from _ _ (le-leb 2 most le)
+      (core_there holes callable 2 (front_of s right) (behind + length (mark_of s word)) (kind_at s right) (kids_at s right) third.0 met))
+      (and_from _ _ kind
+      (and_from _ _
+      (ampersand_by holes (front_of s node) (mark_kind s ampersand)
+      (leaf_there holes (place_of s ampersand.0) (front_of s node) (k.AMP ∷ []) (mark_kind s ampersand) (mark_of s ampersand) l.behind.0 (mark holes are)))
+      (leaf_there holes (place_of s word.0) behind (k.MUT_KW ∷ []) (mark_kind s word) (mark_of s word) second.0 (mut holes are))))))
 
   -- ** What goes on with an expression.
 
@@ -313,13 +309,13 @@ module _ (s : Syntax) (names : List TokenNo) (node : NodeNo) (callable : Bool) (
       let second = behind_node s (front_of s node) left.0 (token_part question.0 (token_of s question.0) ∷ []) l.behind in
       one_enough left asked (need.Operand false 1) (first_below s node.0 left (element.Token question ∷ []) has solid) same wants
       (λ holes are met.
-        by_shape holes _ l
-        (and_from _ _
-        (and_from _ _ (le-leb 1 most le)
-        (core_there holes false 1 (front_of s left) (front_of s node) (kind_at s left) (kids_at s left) l.behind.0 met))
-        (and_from _ _ kind
-        (leaf_there holes (place_of s question.0) (front_of s node + length (spell (kids_at s left))) (k.QUESTION ∷ []) (mark_kind s question) (mark_of s question)
-        second.0 (mark holes are)))))
+      by_shape holes _ l
+      (and_from _ _
+      (and_from _ _ (le-leb 1 most le)
+      (core_there holes false 1 (front_of s left) (front_of s node) (kind_at s left) (kids_at s left) l.behind.0 met))
+      (and_from _ _ kind
+      (leaf_there holes (place_of s question.0) (front_of s node + length (spell (kids_at s left))) (k.QUESTION ∷ []) (mark_kind s question) (mark_of s question)
+      second.0 (mark holes are)))))
 
   pub field_enough : (left : NodeNo) (dot : TokenNo) (name : NodeNo) (asked : Asked)
       → AreSolid s node.0 (element.Node left ∷ element.Token dot ∷ element.Node name ∷ []) → 1 ≤ most
@@ -332,15 +328,15 @@ module _ (s : Syntax) (names : List TokenNo) (node : NodeNo) (callable : Bool) (
       let third = behind_token s behind dot.0 (token_of s dot.0) (node_part (node_of s name.0) ∷ []) second in
       one_enough left asked (need.Operand false 1) (first_below s node.0 left (element.Token dot ∷ element.Node name ∷ []) has solid) same wants
       (λ holes are met.
-        by_shape holes _ l
-        (if_false (same_kind (kind_at s node) k.BIN_EXPR) _ _ (other_kind (kind_at s node) kind)
-        (and_from _ _
-        (and_from _ _ (le-leb 1 most le)
-        (core_there holes false 1 (front_of s left) (front_of s node) (kind_at s left) (kids_at s left) l.behind.0 met))
-        (and_from _ _ kind
-        (and_from _ _
-        (leaf_there holes (place_of s dot.0) behind (k.DOT ∷ []) (mark_kind s dot) (mark_of s dot) second.0 (mark holes are))
-        (subst (λ n. is_name_ref holes n (member_names callable) (kind_at s name) (kids_at s name) ≡ true) third.0 (member holes are)))))))
+      by_shape holes _ l
+      (if_false (same_kind (kind_at s node) k.BIN_EXPR) _ _ (other_kind (kind_at s node) kind)
+      (and_from _ _
+      (and_from _ _ (le-leb 1 most le)
+      (core_there holes false 1 (front_of s left) (front_of s node) (kind_at s left) (kids_at s left) l.behind.0 met))
+      (and_from _ _ kind
+      (and_from _ _
+      (leaf_there holes (place_of s dot.0) behind (k.DOT ∷ []) (mark_kind s dot) (mark_of s dot) second.0 (mark holes are))
+      (subst (λ n. is_name_ref holes n (member_names callable) (kind_at s name) (kids_at s name) ≡ true) third.0 (member holes are)))))))
 
   pub index_enough : (left : NodeNo) (opening : TokenNo) (within : NodeNo) (closing : TokenNo) (a b : Asked)
       → AreSolid s node.0 (element.Node left ∷ element.Token opening ∷ element.Node within ∷ element.Token closing ∷ []) → 1 ≤ most
@@ -360,17 +356,17 @@ module _ (s : Syntax) (names : List TokenNo) (node : NodeNo) (callable : Bool) (
       (third_below s node.0 (element.Node left) (element.Token opening) within (element.Token closing ∷ []) has solid)
       same wants other needs
       (λ holes are met also.
-        by_shape holes _ l
-        (and_from _ _
-        (and_from _ _
-        (and_from _ _ (le-leb 1 most le)
-        (core_there holes false 1 (front_of s left) (front_of s node) (kind_at s left) (kids_at s left) l.behind.0 met))
-        (inside_there holes (front_of s within) behind (kind_at s within) (kids_at s within) third.0 also))
-        (and_from _ _ kind
-        (and_from _ _
-        (leaf_there holes (place_of s opening.0) start (k.L_BRACK ∷ []) (mark_kind s opening) (mark_of s opening) second.0 (opens holes are))
-        (leaf_there holes (place_of s closing.0) (behind + length (spell (kids_at s within))) (k.R_BRACK ∷ []) (mark_kind s closing) (mark_of s closing) fourth.0
-        (closes holes are))))))
+      by_shape holes _ l
+      (and_from _ _
+      (and_from _ _
+      (and_from _ _ (le-leb 1 most le)
+      (core_there holes false 1 (front_of s left) (front_of s node) (kind_at s left) (kids_at s left) l.behind.0 met))
+      (inside_there holes (front_of s within) behind (kind_at s within) (kids_at s within) third.0 also))
+      (and_from _ _ kind
+      (and_from _ _
+      (leaf_there holes (place_of s opening.0) start (k.L_BRACK ∷ []) (mark_kind s opening) (mark_of s opening) second.0 (opens holes are))
+      (leaf_there holes (place_of s closing.0) (behind + length (spell (kids_at s within))) (k.R_BRACK ∷ []) (mark_kind s closing) (mark_of s closing) fourth.0
+      (closes holes are))))))
 
   -- ** Calls.
 
@@ -393,10 +389,10 @@ module _ (s : Syntax) (names : List TokenNo) (node : NodeNo) (callable : Bool) (
       (first_below s node.0 left (element.Node arguments ∷ []) has solid) (second_below s node.0 (element.Node left) arguments [] has solid)
       same wants other needs
       (λ holes are met also.
-        by_shape holes _ l
-        (call_of holes (front_of s node) (kind_at s node) (kind_at s left) (kind_at s arguments) (kids_at s left) (kids_at s arguments) le kind
-        (core_there holes true 1 (front_of s left) (front_of s node) (kind_at s left) (kids_at s left) l.behind.0 met)
-        (subst (λ n. are_arguments holes n (kind_at s arguments) (kids_at s arguments) ≡ true) second.0 also)))
+      by_shape holes _ l
+      (call_of holes (front_of s node) (kind_at s node) (kind_at s left) (kind_at s arguments) (kids_at s left) (kids_at s arguments) le kind
+      (core_there holes true 1 (front_of s left) (front_of s node) (kind_at s left) (kids_at s left) l.behind.0 met)
+      (subst (λ n. are_arguments holes n (kind_at s arguments) (kids_at s arguments) ≡ true) second.0 also)))
 
   method_of : (holes : Holes) (at : ℕ) (kind m a j i : SyntaxKind) (xs ys zs : Forest) (us : List Token) → 1 ≤ most → same_kind kind k.METHOD_CALL_EXPR ≡ true
       → core holes false 1 at m xs ≡ true → is_leaf holes (at + length (spell xs)) (k.DOT ∷ []) a us ≡ true
@@ -428,10 +424,10 @@ module _ (s : Syntax) (names : List TokenNo) (node : NodeNo) (callable : Bool) (
       (fourth_below s node.0 (element.Node left) (element.Token dot) (element.Node name) arguments [] has solid)
       same wants other needs
       (λ holes are met also.
-        by_shape holes _ l
-        (method_of holes (front_of s node) (kind_at s node) (kind_at s left) (mark_kind s dot) (kind_at s name) (kind_at s arguments)
-        (kids_at s left) (kids_at s name) (kids_at s arguments) (mark_of s dot) le kind
-        (core_there holes false 1 (front_of s left) (front_of s node) (kind_at s left) (kids_at s left) l.behind.0 met)
-        (leaf_there holes (place_of s dot.0) start (k.DOT ∷ []) (mark_kind s dot) (mark_of s dot) second.0 (mark holes are))
-        (subst (λ n. is_name_ref holes n (k.IDENT ∷ []) (kind_at s name) (kids_at s name) ≡ true) third.0 (member holes are))
-        (subst (λ n. are_arguments holes n (kind_at s arguments) (kids_at s arguments) ≡ true) fourth.0 also)))
+      by_shape holes _ l
+      (method_of holes (front_of s node) (kind_at s node) (kind_at s left) (mark_kind s dot) (kind_at s name) (kind_at s arguments)
+      (kids_at s left) (kids_at s name) (kids_at s arguments) (mark_of s dot) le kind
+      (core_there holes false 1 (front_of s left) (front_of s node) (kind_at s left) (kids_at s left) l.behind.0 met)
+      (leaf_there holes (place_of s dot.0) start (k.DOT ∷ []) (mark_kind s dot) (mark_of s dot) second.0 (mark holes are))
+      (subst (λ n. is_name_ref holes n (k.IDENT ∷ []) (kind_at s name) (kids_at s name) ≡ true) third.0 (member holes are))
+      (subst (λ n. are_arguments holes n (kind_at s arguments) (kids_at s arguments) ≡ true) fourth.0 also)))

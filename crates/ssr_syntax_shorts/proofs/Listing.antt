@@ -1,13 +1,12 @@
 -- The arguments of a call, one child of their list after the other.
-use Rattle.std.proofs.Common.{◌≡◌, ℕ, ◌+◌, ◌*◌, ◌<◌, Bool, true, false, ◌&&◌, ◌||◌, if◌then◌else◌, List, [], ◌∷◌, ◌++◌, All, length, map, refl, sym, ap, subst, ◌∙◌, arith}
-use Rattle.std.specs.Prelude.{⊤}
+use Rattle.std.proofs.Common.{◌≡◌, ℕ, ◌+◌, ◌*◌, ◌<◌, true, List, [], ◌∷◌, ◌++◌, All, length, map, refl, sym, ap, subst, ◌∙◌, arith}
 use Rattle.std.proofs.lemmas.Bool.{and_from, and_parts}
 use Rattle.std.proofs.lemmas.List.Elements.{All-head, All-tail, All-rest}
 use Rattle.ssr_syntax_kinds.specs.Kinds.{same_kind}
 use Rattle.ssr_syntax_kinds.specs.declared.kinds.SyntaxKind.{SyntaxKind}
 use Rattle.ssr_syntax_kinds.specs.declared.kinds.SyntaxKind.TheVariants as k
 use Rattle.ssr_syntax_tree.specs.Syntax.{Syntax}
-use Rattle.ssr_syntax_tree.specs.Places.{Part, token_part, node_part, HasElement, HasNode, node_of, token_of, part_of, parts_of, elements_of, size_of}
+use Rattle.ssr_syntax_tree.specs.Places.{Part, HasElement, HasNode, node_of, token_of, part_of, parts_of, elements_of, size_of}
 use Rattle.ssr_syntax_tree.specs.declared.number.Element.{Element}
 use Rattle.ssr_syntax_tree.specs.declared.number.Element.TheVariants as element
 use Rattle.ssr_syntax_tree.specs.declared.number.NodeNo.{NodeNo}
@@ -15,7 +14,7 @@ use Rattle.ssr_syntax_tree.specs.declared.number.TokenNo.{TokenNo}
 use Rattle.ssr_syntax_tree.proofs.Shared.{IsChild, children_known, elements_had, parts_of-elements_of}
 use Rattle.ssr_syntax_forms.specs.declared.tokens.Token.{Token}
 use Rattle.ssr_syntax_forms.specs.Trees.{Forest, done, leaf, tree, spell}
-use Rattle.ssr_syntax_places.specs.Core.{Holes, arguments, core, is_held, is_leaf}
+use Rattle.ssr_syntax_places.specs.Core.{Holes, arguments, is_leaf}
 use Rattle.ssr_syntax_places.specs.PlainCore.{forest_in, tokens_like}
 use Rattle.ssr_syntax_shorts.specs.Names.{place_of, AreNames}
 use Rattle.ssr_syntax_shorts.specs.declared.arguments.Turn.{Turn}
@@ -25,7 +24,7 @@ use Rattle.ssr_syntax_shorts.specs.Private.Arguments.{accepts, count_at, in_fron
 use Rattle.ssr_syntax_shorts.specs.Private.Marks.{IsMark}
 use Rattle.ssr_syntax_shorts.specs.Private.Operands.{Meets, are_arguments, meets}
 use Rattle.ssr_syntax_shorts.specs.Private.Shapes.{solid_parts}
-use Rattle.ssr_syntax_shorts.proofs.SolidChildren.{AreBehind, Laid, child_smaller, forest_of, laid_node, solid_step}
+use Rattle.ssr_syntax_shorts.proofs.SolidChildren.{AreBehind, child_smaller, forest_of, laid_node, solid_step}
 
 -- ** Steps.
 

@@ -1,5 +1,5 @@
 -- Names whose tokens are told by the parts of a text.
-use Rattle.std.proofs.Common.{◌≡◌, ℕ, ◌+◌, ◌==◌, Bool, true, false, ◌||◌, if◌then◌else◌, List, [], ◌∷◌, All, length, map, Option, Some, None, inl, inr, refl, sym, ap, ◌∙◌, arith}
+use Rattle.std.proofs.Common.{◌≡◌, ℕ, ◌+◌, ◌==◌, Bool, true, false, ◌||◌, if◌then◌else◌, List, [], ◌∷◌, All, length, map, Option, Some, inl, inr, refl, sym, ap, ◌∙◌, arith}
 use Rattle.std.specs.Prelude.{is_some}
 use Rattle.std.specs.List.{list_any}
 use Rattle.std.proofs.lemmas.Bool.{eqb-true, eqb-false, eq-eqb, ne_eqb, cases_Bool}
@@ -8,7 +8,7 @@ use Rattle.ssr_syntax_tree.specs.Syntax.{Syntax}
 use Rattle.ssr_syntax_tree.specs.Places.{token_of}
 use Rattle.ssr_syntax_tree.specs.declared.number.TokenNo.{TokenNo}
 use Rattle.ssr_syntax_rows.specs.Solid.{solid_tokens}
-use Rattle.ssr_syntax_places.specs.Core.{Hole, Holes}
+use Rattle.ssr_syntax_places.specs.Core.{Hole}
 use Rattle.ssr_syntax_places.specs.LongTexts.{holes_in}
 use Rattle.ssr_syntax_places.specs.Woven.{Part}
 use Rattle.ssr_syntax_shorts.specs.Names.{name_places, place_of, AreNames}

@@ -1,8 +1,8 @@
 -- Which tokens are names.
-use Rattle.std.proofs.Common.{◌≡◌, ◌≢◌, ℕ, zero, suc, ◌+◌, ◌-◌, ◌<◌, ◌≤◌, ◌==◌, nat_eq, Bool, true, false, not, ◌&&◌, ◌||◌, List, [], ◌∷◌, All, length, Option, Some, None, inl, inr, refl, sym, ap, subst, ◌∙◌, arith}
-use Rattle.std.specs.Prelude.{is_some, replicate, IsTrue}
+use Rattle.std.proofs.Common.{◌≡◌, ◌≢◌, ℕ, suc, ◌+◌, ◌-◌, ◌<◌, ◌≤◌, ◌==◌, nat_eq, Bool, true, false, not, ◌&&◌, ◌||◌, List, [], ◌∷◌, All, length, Option, Some, None, inl, inr, refl, sym, ap, subst, ◌∙◌, arith}
+use Rattle.std.specs.Prelude.{is_some, replicate}
 use Rattle.std.specs.List.{list_any}
-use Rattle.std.proofs.lemmas.Bool.{and_from, and_parts, eqb-true, eq-eqb, cases_lt, or_cases, cases_Bool}
+use Rattle.std.proofs.lemmas.Bool.{and_from, eqb-true, eq-eqb, cases_lt, or_cases}
 use Rattle.std.proofs.lemmas.List.{length-replicate}
 use Rattle.std.proofs.lemmas.List.Elements.{All-head, All-tail}
 use Rattle.ssr_syntax_kinds.specs.Kinds.{is_trivia, same_kind}
@@ -15,11 +15,10 @@ use Rattle.ssr_syntax_tree.specs.declared.number.TokenNo.{TokenNo}
 use Rattle.ssr_syntax_forms.specs.declared.tokens.Token.{Token}
 use Rattle.ssr_syntax_forms.specs.Kinds.{mem}
 use Rattle.ssr_syntax_forms.specs.Trees.{spell}
-use Rattle.ssr_syntax_places.specs.Core.{Hole, Holes, are_spelled, is_no_hole, is_held, is_leaf, is_single}
+use Rattle.ssr_syntax_places.specs.Core.{Hole, Holes, are_spelled, is_no_hole, is_single}
 use Rattle.ssr_syntax_places.specs.PlainCore.{forest_in, size_of_kind, solid_size, tokens_like}
-use Rattle.ssr_syntax_places.specs.Standing.{is_token}
 use Rattle.ssr_syntax_places.proofs.Shared.{forest_size}
-use Rattle.ssr_syntax_shorts.specs.Names.{place_of, AreNames}
+use Rattle.ssr_syntax_shorts.specs.Names.{place_of}
 use Rattle.ssr_syntax_shorts.specs.Private.Marks.{IsOwn, IsMark, IsHeld}
 use Rattle.ssr_syntax_shorts.proofs.Places.{some_size, like_length, place_grows, place_step, node_lies, only_token}
 

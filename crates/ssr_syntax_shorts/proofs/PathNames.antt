@@ -1,18 +1,18 @@
 -- Paths of names, node by node.
-use Rattle.std.proofs.Common.{◌≡◌, ℕ, ◌+◌, true, ◌&&◌, List, [], ◌∷◌, length, refl, sym, subst}
+use Rattle.std.proofs.Common.{◌≡◌, ℕ, ◌+◌, true, List, [], ◌∷◌, length, sym, subst}
 use Rattle.std.proofs.lemmas.Bool.{and_from}
 use Rattle.ssr_syntax_kinds.specs.Kinds.{same_kind}
 use Rattle.ssr_syntax_kinds.specs.declared.kinds.SyntaxKind.{SyntaxKind}
 use Rattle.ssr_syntax_kinds.specs.declared.kinds.SyntaxKind.TheVariants as k
 use Rattle.ssr_syntax_tree.specs.Syntax.{Syntax}
-use Rattle.ssr_syntax_tree.specs.Places.{Part, token_part, node_part, HasNode, node_of, token_of, size_of}
+use Rattle.ssr_syntax_tree.specs.Places.{token_part, node_part, HasNode, node_of, token_of}
 use Rattle.ssr_syntax_tree.specs.declared.number.Element.TheVariants as element
 use Rattle.ssr_syntax_tree.specs.declared.number.NodeNo.{NodeNo}
 use Rattle.ssr_syntax_tree.specs.declared.number.TokenNo.{TokenNo}
 use Rattle.ssr_syntax_forms.specs.Trees.{Forest, done, leaf, tree, spell}
 use Rattle.ssr_syntax_types.specs.Paths.{path_names}
-use Rattle.ssr_syntax_places.specs.Core.{Holes, is_leaf, is_name_ref, is_path, is_segment}
-use Rattle.ssr_syntax_shorts.specs.Names.{place_of, AreNames}
+use Rattle.ssr_syntax_places.specs.Core.{Holes, is_name_ref, is_path, is_segment}
+use Rattle.ssr_syntax_shorts.specs.Names.{place_of}
 use Rattle.ssr_syntax_shorts.specs.Private.Marks.{IsMark, IsNameRef, IsPathAt, IsSegment}
 use Rattle.ssr_syntax_shorts.specs.Private.Shapes.{AreSolid}
 use Rattle.ssr_syntax_shorts.proofs.SolidChildren.{laid}

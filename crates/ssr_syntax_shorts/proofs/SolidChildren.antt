@@ -7,10 +7,10 @@ use Rattle.ssr_syntax_kinds.specs.Kinds.{is_trivia}
 use Rattle.ssr_syntax_tree.specs.declared.number.Element.{Element}
 use Rattle.ssr_syntax_tree.specs.Syntax as plain
 use Rattle.ssr_syntax_tree.specs.Syntax.{Syntax, node_count, token_count, tokens_in}
-use Rattle.ssr_syntax_tree.specs.Places.{Node, Part, token_part, node_part, HasElement, HasNode, node_of, token_of, part_of, parts_in, parts_of, elements_of, size_of}
+use Rattle.ssr_syntax_tree.specs.Places.{Node, Part, token_part, node_part, HasElement, HasNode, node_of, part_of, parts_in, parts_of, elements_of, size_of}
 use Rattle.ssr_syntax_tree.proofs.Shared.{IsChild, children_known, elements_had, parts_of-elements_of, node_of-number, smaller}
 use Rattle.ssr_syntax_forms.specs.Trees.{Forest, done, leaf, tree, spell}
-use Rattle.ssr_syntax_places.specs.PlainCore.{forest_in, size_of_kind, solid_size, tokens_like}
+use Rattle.ssr_syntax_places.specs.PlainCore.{forest_in, size_of_kind, tokens_like}
 use Rattle.ssr_syntax_places.proofs.Shared.{forest_size}
 use Rattle.ssr_syntax_shorts.specs.Names.{place_of}
 use Rattle.ssr_syntax_shorts.specs.declared.shapes.Shape.{Shape}
@@ -59,15 +59,17 @@ are_behind s p m t (plain.leaf token next) lies =
           (if b then solid_parts (parts_in p m (1 + t) next) else token_part t token ∷ solid_parts (parts_in p m (1 + t) next))
       by_kind true rest e =
           subst (λ n. AreBehind s n (solid_parts (parts_in p m (1 + t) next))) (let same : place_of s (1 + t) ≡ place_of s t = omega (arith, e) in same) rest
-      by_kind false rest e =
-          (refl,
-          subst (λ n. AreBehind s n (solid_parts (parts_in p m (1 + t) next)))
-          (let same : place_of s (1 + t) ≡ place_of s t + length (tokens_like token.kind) = omega (arith, e, like_length token.kind) in same) rest)
-are_behind s p m t (plain.branch kind below next) lies =
-    (refl,
-    subst (λ n. AreBehind s n (solid_parts (parts_in p (1 + m + node_count below) (t + token_count below) next)))
-    (place_next s t kind below next lies ∙ ap (λ n. place_of s t + n) (sym (forest_size below)))
-    (are_behind s p (1 + m + node_count below) (t + token_count below) next (lies_next s t kind below next lies)))
+      by_kind false rest e = (
+        refl,
+        subst (λ n. AreBehind s n (solid_parts (parts_in p m (1 + t) next)))
+            (let same : place_of s (1 + t) ≡ place_of s t + length (tokens_like token.kind) = omega (arith, e, like_length token.kind) in same) rest,
+      )
+are_behind s p m t (plain.branch kind below next) lies = (
+  refl,
+  subst (λ n. AreBehind s n (solid_parts (parts_in p (1 + m + node_count below) (t + token_count below) next)))
+      (place_next s t kind below next lies ∙ ap (λ n. place_of s t + n) (sym (forest_size below)))
+      (are_behind s p (1 + m + node_count below) (t + token_count below) next (lies_next s t kind below next lies)),
+)
 
 solid_all : (P : Part → Type 0) (parts : List Part) → All P parts → All P (solid_parts parts)
 solid_all P [] all = all

@@ -142,7 +142,13 @@ fn in_front(walk: &Walk<'_>, spot: Spot, operator: TokenNo, right: NodeNo) -> Op
 }
 
 /// What stands in parentheses.
-fn in_parentheses(walk: &Walk<'_>, spot: Spot, opening: TokenNo, within: NodeNo, closing: TokenNo) -> Option<Operands>
+fn in_parentheses(
+    walk: &Walk<'_>,
+    spot: Spot,
+    opening: TokenNo,
+    within: NodeNo,
+    closing: TokenNo,
+) -> Option<Operands>
     requires has { HasNode walk.now.tree.now spot.node.0 }
     requires shape { AreSolid walk.now.tree.now spot.node.0 (Element.Token opening ∷ Element.Node within ∷ Element.Token closing ∷ []) }
     ensures { IfSome result (λ operands. AreEnough walk.now.tree.now walk.now.names.now (Need.Operand spot.callable spot.most) spot.node.0 (asked_in operands)) }
@@ -160,7 +166,10 @@ fn in_parentheses(walk: &Walk<'_>, spot: Spot, opening: TokenNo, within: NodeNo,
 fn rank_of(kind: SyntaxKind) -> Option<u8>
     ensures { IfSome result (λ rank. (row_in ranks kind ≡ rank) × (rank < 9)) }
 {
-    if is_one_of(kind, &[SyntaxKind::STAR, SyntaxKind::SLASH, SyntaxKind::PERCENT]) {
+    if is_one_of(
+        kind,
+        &[SyntaxKind::STAR, SyntaxKind::SLASH, SyntaxKind::PERCENT],
+    ) {
         return Some(0);
     }
     if is_one_of(kind, &[SyntaxKind::PLUS, SyntaxKind::MINUS]) {
@@ -191,7 +200,13 @@ fn rank_of(kind: SyntaxKind) -> Option<u8>
 }
 
 /// An operator between two operands.
-fn between(walk: &Walk<'_>, spot: Spot, left: NodeNo, operator: TokenNo, right: NodeNo) -> Option<Operands>
+fn between(
+    walk: &Walk<'_>,
+    spot: Spot,
+    left: NodeNo,
+    operator: TokenNo,
+    right: NodeNo,
+) -> Option<Operands>
     requires has { HasNode walk.now.tree.now spot.node.0 }
     requires shape { AreSolid walk.now.tree.now spot.node.0 (Element.Node left ∷ Element.Token operator ∷ Element.Node right ∷ []) }
     ensures { IfSome result (λ operands. AreEnough walk.now.tree.now walk.now.names.now (Need.Operand spot.callable spot.most) spot.node.0 (asked_in operands)) }
@@ -208,7 +223,13 @@ fn between(walk: &Walk<'_>, spot: Spot, left: NodeNo, operator: TokenNo, right: 
 }
 
 /// A mutable reference.
-fn mut_reference(walk: &Walk<'_>, spot: Spot, ampersand: TokenNo, word: TokenNo, right: NodeNo) -> Option<Operands>
+fn mut_reference(
+    walk: &Walk<'_>,
+    spot: Spot,
+    ampersand: TokenNo,
+    word: TokenNo,
+    right: NodeNo,
+) -> Option<Operands>
     requires has { HasNode walk.now.tree.now spot.node.0 }
     requires shape { AreSolid walk.now.tree.now spot.node.0 (Element.Token ampersand ∷ Element.Token word ∷ Element.Node right ∷ []) }
     ensures { IfSome result (λ operands. AreEnough walk.now.tree.now walk.now.names.now (Need.Operand spot.callable spot.most) spot.node.0 (asked_in operands)) }
@@ -272,7 +293,13 @@ fn field(walk: &Walk<'_>, spot: Spot, left: NodeNo, dot: TokenNo, name: NodeNo) 
 }
 
 /// What stands between a field's two nodes or an operator's.
-fn joined(walk: &Walk<'_>, spot: Spot, left: NodeNo, mark: TokenNo, right: NodeNo) -> Option<Operands>
+fn joined(
+    walk: &Walk<'_>,
+    spot: Spot,
+    left: NodeNo,
+    mark: TokenNo,
+    right: NodeNo,
+) -> Option<Operands>
     requires has { HasNode walk.now.tree.now spot.node.0 }
     requires shape { AreSolid walk.now.tree.now spot.node.0 (Element.Node left ∷ Element.Token mark ∷ Element.Node right ∷ []) }
     ensures { IfSome result (λ operands. AreEnough walk.now.tree.now walk.now.names.now (Need.Operand spot.callable spot.most) spot.node.0 (asked_in operands)) }
@@ -285,7 +312,14 @@ fn joined(walk: &Walk<'_>, spot: Spot, left: NodeNo, mark: TokenNo, right: NodeN
 }
 
 /// An index behind an expression.
-fn index(walk: &Walk<'_>, spot: Spot, left: NodeNo, opening: TokenNo, within: NodeNo, closing: TokenNo) -> Option<Operands>
+fn index(
+    walk: &Walk<'_>,
+    spot: Spot,
+    left: NodeNo,
+    opening: TokenNo,
+    within: NodeNo,
+    closing: TokenNo,
+) -> Option<Operands>
     requires has { HasNode walk.now.tree.now spot.node.0 }
     requires shape { AreSolid walk.now.tree.now spot.node.0 (Element.Node left ∷ Element.Token opening ∷ Element.Node within ∷ Element.Token closing ∷ []) }
     ensures { IfSome result (λ operands. AreEnough walk.now.tree.now walk.now.names.now (Need.Operand spot.callable spot.most) spot.node.0 (asked_in operands)) }
@@ -329,7 +363,14 @@ fn call(walk: &Walk<'_>, spot: Spot, left: NodeNo, arguments: NodeNo) -> Option<
 }
 
 /// A call of a method.
-fn method_call(walk: &Walk<'_>, spot: Spot, left: NodeNo, dot: TokenNo, name: NodeNo, arguments: NodeNo) -> Option<Operands>
+fn method_call(
+    walk: &Walk<'_>,
+    spot: Spot,
+    left: NodeNo,
+    dot: TokenNo,
+    name: NodeNo,
+    arguments: NodeNo,
+) -> Option<Operands>
     requires has { HasNode walk.now.tree.now spot.node.0 }
     requires shape { AreSolid walk.now.tree.now spot.node.0 (Element.Node left ∷ Element.Token dot ∷ Element.Node name ∷ Element.Node arguments ∷ []) }
     ensures { IfSome result (λ operands. AreEnough walk.now.tree.now walk.now.names.now (Need.Operand spot.callable spot.most) spot.node.0 (asked_in operands)) }
@@ -366,14 +407,24 @@ pub(crate) fn operands_of(walk: &Walk<'_>, spot: Spot) -> Option<Operands>
         Shape::Three(Element::Token(first), Element::Token(second), Element::Node(right)) => {
             mut_reference(walk, spot, first, second, right)
         }
-        Shape::Two(Element::Node(left), Element::Token(question)) => questioned(walk, spot, left, question),
-        Shape::Two(Element::Node(left), Element::Node(arguments)) => call(walk, spot, left, arguments),
-        Shape::Four(Element::Node(left), Element::Token(opening), Element::Node(within), Element::Token(closing)) => {
-            index(walk, spot, left, opening, within, closing)
-        }
-        Shape::Four(Element::Node(left), Element::Token(dot), Element::Node(name), Element::Node(arguments)) => {
-            method_call(walk, spot, left, dot, name, arguments)
-        }
+        Shape::Two(Element::Node(left), Element::Token(question)) => questioned(
+            walk, spot, left, question,
+        ),
+        Shape::Two(Element::Node(left), Element::Node(arguments)) => call(
+            walk, spot, left, arguments,
+        ),
+        Shape::Four(
+            Element::Node(left),
+            Element::Token(opening),
+            Element::Node(within),
+            Element::Token(closing),
+        ) => { index(walk, spot, left, opening, within, closing) }
+        Shape::Four(
+            Element::Node(left),
+            Element::Token(dot),
+            Element::Node(name),
+            Element::Node(arguments),
+        ) => { method_call(walk, spot, left, dot, name, arguments) }
         _ => None,
     }
 }

@@ -26,11 +26,14 @@ fn meets(walk: &Walk<'_>, asked: Asked) -> bool
         most: 12,
     };
     match asked.need {
-        Need::Operand(callable, most) => are_met(walk, Spot {
-            node: asked.node,
-            callable,
-            most,
-        }),
+        Need::Operand(callable, most) => are_met(
+            walk,
+            Spot {
+                node: asked.node,
+                callable,
+                most,
+            },
+        ),
         Need::Inside => walk.is_held(asked.node) || are_met(walk, any),
         Need::Arguments => are_arguments(walk, asked.node),
     }
@@ -101,9 +104,12 @@ pub fn is_core(tree: &Tree, names: &[TokenNo]) -> bool
     ensures { IsTrue result → (holes : Holes) → AreNames tree.now names.now holes → is_core_tree holes false 12 tree.now ≡ true }
 {
     let walk = Walk { tree, names };
-    are_met(&walk, Spot {
-        node: NodeNo(0),
-        callable: false,
-        most: 12,
-    })
+    are_met(
+        &walk,
+        Spot {
+            node: NodeNo(0),
+            callable: false,
+            most: 12,
+        },
+    )
 }

@@ -6,7 +6,7 @@ use Rattle.ssr_syntax_kinds.specs.declared.kinds.SyntaxKind.TheVariants as k
 use Rattle.ssr_syntax_tree.specs.Syntax.{Syntax}
 use Rattle.ssr_syntax_tree.specs.Places.{HasNode, node_of, size_of}
 use Rattle.ssr_syntax_tree.specs.declared.number.TokenNo.{TokenNo}
-use Rattle.ssr_syntax_forms.specs.Trees.{Forest, done, leaf, tree}
+use Rattle.ssr_syntax_forms.specs.Trees.{Forest, leaf}
 use Rattle.ssr_syntax_places.specs.Core.{Holes, arguments, core, is_held, is_leaf}
 use Rattle.ssr_syntax_places.specs.PlainCore.{forest_in}
 use Rattle.ssr_syntax_shorts.specs.declared.operands.Asked.{Asked}

@@ -1,4 +1,4 @@
-use Rattle.std.proofs.Common.{◌≡◌, ◌<◌, List, [], ◌∷◌, subst, arith}
+use Rattle.std.proofs.Common.{◌≡◌, ◌<◌, [], ◌∷◌, subst, arith}
 use Rattle.ssr_syntax_tree.specs.Places.{node_of, size_of}
 use Rattle.ssr_syntax_tree.specs.declared.number.Element.TheVariants as element
 use Rattle.ssr_syntax_shorts.specs.declared.shapes.Shape.TheVariants as shape

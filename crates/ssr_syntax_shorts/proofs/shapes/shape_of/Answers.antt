@@ -1,6 +1,6 @@
-use Rattle.std.proofs.Common.{refl, ◌∙◌, ap, [], ◌∷◌, if◌then◌else◌}
+use Rattle.std.proofs.Common.{◌∙◌, ap, [], ◌∷◌, if◌then◌else◌}
 use Rattle.ssr_syntax_tree.specs.Places.{part_of}
-use Rattle.ssr_syntax_shorts.proofs.SolidChildren.{shaping_starts, shaping_first, shaping_passes, shaping_goes_on, shaping_ends}
+use Rattle.ssr_syntax_shorts.proofs.SolidChildren.{shaping_starts, shaping_first, shaping_passes, shaping_goes_on}
 use Rattle.ssr_syntax_shorts.proofs.shapes.shape_of.Goals as goal
 
 pub loop-child-init : goal.loop-child-init

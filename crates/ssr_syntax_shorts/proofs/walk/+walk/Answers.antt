@@ -2,7 +2,6 @@ use Rattle.std.proofs.Common.{◌≡◌, true, ◌*◌, ◌<◌, [], ◌∷◌, 
 use Rattle.ssr_syntax_kinds.specs.Kinds.{same_kind}
 use Rattle.ssr_syntax_kinds.specs.declared.kinds.SyntaxKind.TheVariants as k
 use Rattle.ssr_syntax_tree.specs.Places.{node_of, part_of, size_of}
-use Rattle.ssr_syntax_tree.specs.declared.number.Element.TheVariants as element
 use Rattle.ssr_syntax_tree.specs.declared.number.NodeNo.{NodeNo}
 use Rattle.ssr_syntax_shorts.specs.declared.arguments.Turn.TheVariants as turns
 use Rattle.ssr_syntax_shorts.specs.declared.operands.Need.TheVariants as need

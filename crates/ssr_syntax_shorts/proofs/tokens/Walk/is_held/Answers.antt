@@ -1,4 +1,4 @@
-use Rattle.std.proofs.Common.{sym, ◌∙◌, ◌≡◌, ◌+◌, ◌==◌, true, ap, arith}
+use Rattle.std.proofs.Common.{sym, ◌∙◌, ◌≡◌, ◌==◌, true, ap, arith}
 use Rattle.std.specs.List.{list_any}
 use Rattle.ssr_syntax_kinds.specs.Kinds.{same_kind}
 use Rattle.ssr_syntax_kinds.specs.declared.kinds.SyntaxKind.TheVariants as k
