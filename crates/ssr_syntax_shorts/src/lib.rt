@@ -10,3 +10,6 @@ mod tokens;
 mod walk;
 
 pub use walk::is_core;
+
+#[cfg(test)]
+mod tests;
