@@ -6,3 +6,10 @@ mod PutNames
 mod Numbers
 mod SamePlaces
 mod LongRead
+mod Places
+mod Names
+mod SolidChildren
+mod Enough
+mod Below
+mod PathNames
+mod Listing

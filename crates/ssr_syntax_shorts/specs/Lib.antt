@@ -2,3 +2,4 @@ pub mod Shorts
 pub mod Names
 pub mod Told
 pub mod ShortsCode
+pub mod Private

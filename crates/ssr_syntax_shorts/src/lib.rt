@@ -2,12 +2,22 @@
 //! which bytes of the long one are nodes.
 #![tactic(auto)]
 
+mod arguments;
+pub mod laws;
+mod operands;
+mod paths;
 mod reading;
+mod shapes;
 mod short;
 pub mod short_laws;
 mod stand_ins;
+mod tokens;
 mod walk;
 
 pub use reading::ShortTree;
 pub use short::Short;
 pub use stand_ins::Name;
+pub use walk::is_core;
+
+#[cfg(test)]
+mod tests;
