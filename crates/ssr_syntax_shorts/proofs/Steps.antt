@@ -16,7 +16,7 @@ use Rattle.ssr_syntax_forms.specs.Kinds.{mem}
 use Rattle.ssr_syntax_places.specs.PlainCore.{of_two, of_three, size_of_kind, solid_size}
 use Rattle.ssr_syntax_places.specs.Spans.{has_node_at}
 use Rattle.ssr_syntax_shorts.specs.Names.{place_of}
-use Rattle.ssr_syntax_shorts.specs.Told.{IsCut, AreTokens, solid_before}
+use Rattle.ssr_syntax_shorts.specs.Told.{IsCut, IsSolidAt, AreTokens, solid_before}
 use Rattle.ssr_syntax_shorts.specs.declared.stand_ins.Name.{Name}
 
 -- ** A text without white space around it.
@@ -117,17 +117,17 @@ number_more tree t has =
 -- ** Names that are tokens.
 
 pub tokens_none : (syntax : Syntax) (raw : List RawToken) → AreTokens syntax raw [] []
-tokens_none syntax raw = record { cuts = All-nil (IsCut raw); solid = All-nil (λ (t : TokenNo). is_trivia (token_of syntax t.0).kind ≡ false); same = refl }
+tokens_none syntax raw = record { cuts = All-nil (IsCut raw); solid = All-nil (IsSolidAt syntax); same = refl }
 
 pub tokens_more : (syntax : Syntax) (raw : List RawToken) (names : List Name) (tokens : List TokenNo) (i : ℕ) (name : Name) (token : TokenNo)
-    → i < length names → name ≡ get_or names i name → IsCut raw name → is_trivia (token_of syntax token.0).kind ≡ false
+    → i < length names → name ≡ get_or names i name → IsCut raw name → IsSolidAt syntax token
     → place_of syntax token.0 ≡ solid_before name.at raw
     → AreTokens syntax raw (take i names) tokens → AreTokens syntax raw (take (i + 1) names) (tokens ++ (token ∷ []))
 tokens_more syntax raw names tokens i name token less is cut solid same are =
     let f : TokenNo → ℕ = λ t. place_of syntax t.0 in
     let g : Name → ℕ = λ n. solid_before n.at raw in
     let P : Name → Type 0 = IsCut raw in
-    let Q : TokenNo → Type 0 = λ t. is_trivia (token_of syntax t.0).kind ≡ false in
+    let Q : TokenNo → Type 0 = IsSolidAt syntax in
     let one : take (i + 1) names ≡ take i names ++ (name ∷ []) =
     take_more names i name less ∙ ap (λ n. take i names ++ (n ∷ [])) (sym is) in
     record {
