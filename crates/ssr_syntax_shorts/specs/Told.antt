@@ -1,5 +1,5 @@
 -- What the tree of a short text has to be for the long text to be told by it.
-use Rattle.std.specs.Prelude.{◌≡◌, ℕ, ◌+◌, ◌-◌, ◌≤◌, nat_lt, ◌&&◌, not, Bool, true, false, List, map, All, count_by, Some}
+use Rattle.std.specs.Prelude.{◌≡◌, ℕ, ◌+◌, ◌-◌, ◌≤◌, nat_lt, ◌&&◌, not, true, false, List, map, All, count_by, Some}
 use Rattle.ssr_syntax_kinds.specs.Kinds.{is_trivia}
 use Rattle.ssr_syntax_lex.specs.Seams.{has_token_at}
 use Rattle.ssr_syntax_lex.specs.Tokens.{tokens}

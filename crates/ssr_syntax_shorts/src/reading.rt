@@ -13,8 +13,8 @@ ghost use Rattle.ssr_syntax_shorts.specs.Names.{place_of};
 ghost use Rattle.ssr_syntax_shorts.specs.Shorts.{IsOutside, IsReadOf, IsShort, long_place};
 ghost use Rattle.ssr_syntax_shorts.specs.Told.{AreTokens, IsCut, IsSolidAt, IsTold, solid_before};
 
-use crate::stand_ins::Name;
 use crate::short::Short;
+use crate::stand_ins::Name;
 use crate::walk::is_core;
 use ssr_syntax::{Fragment, Reach, SyntaxError, fragment_of};
 use ssr_syntax_kinds::SyntaxKind;
