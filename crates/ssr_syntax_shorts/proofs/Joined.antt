@@ -1,6 +1,6 @@
 -- Short texts behind one another.
-use Rattle.std.proofs.Common.{◌≡◌, ◌≢◌, ℕ, ◌+◌, ◌-◌, ◌<◌, ◌≤◌, ◌==◌, nat_lt, Bool, true, false, if◌then◌else◌, List, [], ◌∷◌, ◌++◌, length, map, refl, sym, ap, subst, ◌∙◌, arith, append_assoc}
-use Rattle.std.specs.Prelude.{⊤, max}
+use Rattle.std.proofs.Common.{◌≡◌, ℕ, ◌+◌, ◌-◌, ◌<◌, ◌≤◌, nat_lt, Bool, true, false, if◌then◌else◌, List, [], ◌∷◌, ◌++◌, length, map, refl, sym, ap, subst, ◌∙◌, arith, append_assoc}
+use Rattle.std.specs.Prelude.{max}
 use Rattle.std.proofs.lemmas.List.{length-append}
 use Rattle.std.proofs.lemmas.Str.{IsUtf8-append, IsUtf8-nil, encode_ascii}
 use Rattle.std.specs.Str.{IsUtf8, all_scalars}
@@ -9,7 +9,7 @@ use Rattle.ssr_syntax_kinds.specs.declared.reach.Reach.{Reach}
 use Rattle.ssr_syntax.specs.Reading.{trimmed}
 use Rattle.ssr_syntax.proofs.Shared.{fragment_sound_of}
 use Rattle.ssr_syntax_places.specs.Insides.{with_inside}
-use Rattle.ssr_syntax_shorts.specs.Shorts.{Inside, Stretch, ShortText, ShortRead, the_name, opening, closes, short_text, long_text, names_from, IsInside, AreStretches, IsShort, as_it_is, moved, joined, in_parentheses, long_place, IsOutside, IsReadOf}
+use Rattle.ssr_syntax_shorts.specs.Shorts.{Inside, Stretch, ShortText, ShortRead, the_name, opening, closes, short_text, long_text, names_from, AreStretches, IsShort, as_it_is, moved, joined, in_parentheses, long_place, IsOutside, IsReadOf}
 use Rattle.ssr_syntax_shorts.specs.declared.stand_ins.Name.{Name}
 
 -- ** The texts of both.

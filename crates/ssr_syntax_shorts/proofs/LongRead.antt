@@ -1,33 +1,30 @@
 -- What is read of a short text tells what is read of the long one.
-use Rattle.std.proofs.Common.{◌≡◌, ℕ, zero, suc, ◌+◌, ◌<◌, ◌≤◌, ◌^◌, ◌==◌, nat_lt, not, Bool, true, false, if◌then◌else◌, List, [], ◌∷◌, length, map, Some, None, refl, sym, ap, subst, ◌∙◌, arith}
+use Rattle.std.proofs.Common.{◌≡◌, ℕ, zero, suc, ◌+◌, ◌<◌, ◌≤◌, ◌^◌, ◌==◌, nat_lt, Bool, true, false, if◌then◌else◌, List, [], ◌∷◌, length, map, Some, None, refl, sym, ap, subst, ◌∙◌, arith}
 use Rattle.std.specs.Prelude.{All, IfOk, IfSome, Option, Result, Ok, Err, max}
-use Rattle.std.specs.List.{list_any}
 use Rattle.std.specs.Str.{IsUtf8}
 use Rattle.std.proofs.lemmas.Bool.Decides.{nat_tests}
 use Rattle.ssr_syntax_kinds.specs.Kinds.{is_trivia, same_kind}
 use Rattle.ssr_syntax_kinds.specs.declared.fragment.Fragment.TheVariants as fragments
-use Rattle.ssr_syntax_kinds.specs.declared.kinds.SyntaxKind.{SyntaxKind}
 use Rattle.ssr_syntax_kinds.specs.declared.kinds.SyntaxKind.TheVariants as k
 use Rattle.ssr_syntax_kinds.specs.declared.reach.Reach.{Reach}
 use Rattle.ssr_syntax_lex.specs.Tokens.{tokens}
 use Rattle.ssr_syntax_lex.specs.declared.tokens.RawToken.{RawToken}
 use Rattle.ssr_syntax_tree.specs.Syntax as plain
 use Rattle.ssr_syntax_tree.specs.Syntax.{Syntax, depth_of, most_deep}
-use Rattle.ssr_syntax_tree.specs.declared.number.TokenNo.{TokenNo}
 use Rattle.ssr_syntax_forms.specs.Trees.{Forest, done, leaf, tree, height, spell}
 use Rattle.ssr_syntax.specs.Reading.{fragment_reading_of, trimmed, trimmed_front}
 use Rattle.ssr_syntax.specs.declared.syntax_error.SyntaxError.TheVariants as errors
-use Rattle.ssr_syntax_places.specs.Core.{Hole, Holes, is_no_hole}
+use Rattle.ssr_syntax_places.specs.Core.{Hole, Holes}
 use Rattle.ssr_syntax_places.specs.Insides.{with_inside}
 use Rattle.ssr_syntax_places.specs.LongTexts.{AreNamed, ArePaired, IsReadFilled, filled_height, path_height, holes_in, unless_deep}
-use Rattle.ssr_syntax_places.specs.PlainCore.{forest_in, is_core_tree, tokens_like}
+use Rattle.ssr_syntax_places.specs.PlainCore.{forest_in, tokens_like}
 use Rattle.ssr_syntax_places.specs.Spans.{has_node_at}
 use Rattle.ssr_syntax_places.specs.Standing.{node}
 use Rattle.ssr_syntax_places.specs.Woven.{Part, AreCut, cut_text, cuts_of, woven, AreWoven}
 use Rattle.ssr_syntax_places.proofs.Shared.{many_cut, woven_replaced, named_paired, long_read, long_depth, read_nodes}
 use Rattle.ssr_syntax_shorts.specs.Names.{name_places, AreNames}
-use Rattle.ssr_syntax_shorts.specs.Shorts.{Stretch, ShortText, ShortRead, short_text, long_text, names_from, AreStretches, IsShort, IsOutside, IsReadOf, long_place}
-use Rattle.ssr_syntax_shorts.specs.Told.{AreTokens, IsCut, IsTold, solid_before}
+use Rattle.ssr_syntax_shorts.specs.Shorts.{Stretch, ShortText, ShortRead, names_from, IsShort, IsOutside, IsReadOf, long_place}
+use Rattle.ssr_syntax_shorts.specs.Told.{IsCut, IsTold, solid_before}
 use Rattle.ssr_syntax_shorts.specs.declared.stand_ins.Name.{Name}
 use Rattle.ssr_syntax_shorts.proofs.Numbers.{names_numbered}
 use Rattle.ssr_syntax_shorts.proofs.NamedByParts.{named_by_parts}

@@ -1,25 +1,19 @@
 -- The numbers that names have among the tokens of a short text.
-use Rattle.std.proofs.Common.{◌≡◌, ℕ, ◌+◌, ◌<◌, ◌≤◌, ◌==◌, nat_lt, Bool, true, false, not, ◌&&◌, ◌||◌, if◌then◌else◌, List, [], ◌∷◌, ◌++◌, length, map, Some, None, refl, sym, ap, subst, ◌∙◌, arith, cond}
-use Rattle.std.specs.Prelude.{Option, count_by}
-use Rattle.std.specs.List.{list_any}
+use Rattle.std.proofs.Common.{◌≡◌, ℕ, ◌+◌, ◌≤◌, nat_lt, Bool, true, false, not, ◌&&◌, if◌then◌else◌, List, [], ◌∷◌, ◌++◌, length, map, Some, refl, sym, ap, subst, ◌∙◌, arith, cond}
 use Rattle.std.specs.Str.{IsUtf8}
 use Rattle.std.proofs.lemmas.Bool.Decides.{nat_tests}
 use Rattle.std.proofs.lemmas.List.{length-append}
 use Rattle.std.proofs.lemmas.List.Sums.{sum_by-cons}
 use Rattle.ssr_syntax_kinds.specs.Kinds.{is_trivia}
-use Rattle.ssr_syntax_kinds.specs.declared.reach.Reach.{Reach}
-use Rattle.ssr_syntax_lex.specs.Seams.{moved as token_moved, all_in_front, side_by_side, is_seam}
+use Rattle.ssr_syntax_lex.specs.Seams.{moved as token_moved, all_in_front, side_by_side}
 use Rattle.ssr_syntax_lex.specs.Tokens.{tokens, begins_with_punctuation, TilesFrom}
 use Rattle.ssr_syntax_lex.specs.declared.tokens.RawToken.{RawToken}
 use Rattle.ssr_syntax_lex.proofs.Shared.{tokens_tile, before_seam, behind_seam}
-use Rattle.ssr_syntax_tree.specs.Syntax.{Syntax}
-use Rattle.ssr_syntax_tree.specs.declared.number.TokenNo.{TokenNo}
 use Rattle.ssr_syntax_forms.specs.declared.tokens.Token.{Token}
 use Rattle.ssr_syntax_rows.specs.Solid.{solid_token, solid_tokens}
-use Rattle.ssr_syntax_places.specs.Core.{Hole, Holes, is_no_hole, is_single}
+use Rattle.ssr_syntax_places.specs.Core.{is_single}
 use Rattle.ssr_syntax_places.specs.Insides.{with_inside, IsLexed}
-use Rattle.ssr_syntax_places.specs.LongTexts.{AreNamed, holes_in}
-use Rattle.ssr_syntax_places.specs.Woven.{Part, woven, begins_seam, AreWoven}
+use Rattle.ssr_syntax_places.specs.Woven.{Part, woven, AreWoven}
 use Rattle.ssr_syntax_places.proofs.Shared.{woven_lexes}
 use Rattle.ssr_syntax_shorts.specs.Names.{name_places}
 use Rattle.ssr_syntax_shorts.specs.Shorts.{Stretch, names_from}

@@ -1,9 +1,9 @@
 -- The parts of a short text, and those of the long one, in which insides stand in the place of the names.
-use Rattle.std.proofs.Common.{◌≡◌, ℕ, ◌+◌, ◌-◌, ◌<◌, ◌≤◌, ◌==◌, ◌&&◌, Bool, true, false, if◌then◌else◌, List, [], ◌∷◌, ◌++◌, length, Some, None, refl, sym, ap, subst, ◌∙◌, arith}
+use Rattle.std.proofs.Common.{◌≡◌, ℕ, ◌+◌, ◌-◌, ◌<◌, ◌≤◌, ◌==◌, ◌&&◌, Bool, true, false, if◌then◌else◌, List, [], ◌∷◌, ◌++◌, length, Some, refl, sym, ap, subst, ◌∙◌, arith}
 use Rattle.std.specs.Prelude.{⊤, Option, All, max, reverse, unwrap_or}
-use Rattle.std.specs.Str.{IsUtf8, chars}
+use Rattle.std.specs.Str.{chars}
 use Rattle.std.proofs.lemmas.Bool.{and_parts, eqb-true, not-true}
-use Rattle.std.proofs.lemmas.List.{length-append, reverse-append, length-reverse}
+use Rattle.std.proofs.lemmas.List.{reverse-append, length-reverse}
 use Rattle.std.proofs.lemmas.List.Elements.{All-head, All-tail}
 use Rattle.ssr_syntax_kinds.specs.Kinds.{is_trivia, same_kind}
 use Rattle.ssr_syntax_kinds.specs.declared.kinds.SyntaxKind.{SyntaxKind}
@@ -22,10 +22,10 @@ use Rattle.ucd_table.specs.Rows.{in_ranges}
 use Rattle.std.specs.Char.{encode_utf8}
 use Rattle.ssr_syntax_lex.specs.declared.tokens.RawToken.{RawToken}
 use Rattle.ssr_syntax_tree.specs.Syntax.{Syntax, depth_of}
-use Rattle.ssr_syntax_forms.specs.Trees.{Forest, height}
+use Rattle.ssr_syntax_forms.specs.Trees.{height}
 use Rattle.ssr_syntax_rows.specs.Solid.{begins_solid, solid_tokens, pieces}
 use Rattle.ssr_syntax_rows.proofs.Shared.{whole-depth}
-use Rattle.ssr_syntax_places.specs.Core.{Hole, Holes, is_single}
+use Rattle.ssr_syntax_places.specs.Core.{Hole, is_single}
 use Rattle.ssr_syntax_places.specs.Insides.{with_inside, IsLexed}
 use Rattle.ssr_syntax_places.specs.LongTexts.{AreNamed, IsReadAlone, holes_in}
 use Rattle.ssr_syntax_places.specs.Woven.{Part, Cut, woven, begins_seam, AreWoven, AreCuts, AreReplaced, cut_text, cuts_of}

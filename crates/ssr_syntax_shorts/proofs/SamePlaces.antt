@@ -1,15 +1,14 @@
 -- Places of a short text, and the same places of the long one.
-use Rattle.std.proofs.Common.{◌≡◌, ◌≢◌, ℕ, ◌+◌, ◌-◌, ◌<◌, ◌≤◌, ◌==◌, nat_lt, Bool, true, false, if◌then◌else◌, List, [], ◌∷◌, ◌++◌, length, map, ◌⊎◌, inl, inr, refl, sym, ap, subst, ◌∙◌, arith}
-use Rattle.std.specs.Prelude.{⊤}
+use Rattle.std.proofs.Common.{◌≡◌, ◌≢◌, ℕ, ◌+◌, ◌-◌, ◌<◌, ◌≤◌, nat_lt, Bool, true, false, if◌then◌else◌, List, [], ◌∷◌, length, map, inl, inr, refl, sym, ap, subst, ◌∙◌, arith}
 use Rattle.std.proofs.lemmas.Bool.{cases_lt}
 use Rattle.std.proofs.lemmas.Bool.Decides.{nat_tests}
 use Rattle.ssr_syntax_kinds.specs.declared.reach.Reach.{Reach}
 use Rattle.ssr_syntax_places.specs.Spans.{inside_at, IsSamePlace, BeginsHere, EndsHere, AreSameBytes}
 use Rattle.ssr_syntax_places.specs.Woven.{Part}
-use Rattle.ssr_syntax_shorts.specs.Shorts.{Stretch, names_from, IsInside, AreStretches, moved, long_place, IsOutside}
+use Rattle.ssr_syntax_shorts.specs.Shorts.{Stretch, names_from, AreStretches, moved, long_place, IsOutside}
 use Rattle.ssr_syntax_shorts.specs.declared.stand_ins.Name.{Name}
 use Rattle.ssr_syntax_shorts.proofs.Joined.{names_moved}
-use Rattle.ssr_syntax_shorts.proofs.PutNames.{IsMatched, AreMatched}
+use Rattle.ssr_syntax_shorts.proofs.PutNames.{AreMatched}
 
 -- ** Places grow.
 

@@ -1,22 +1,21 @@
 -- Steps of the loops that read short texts.
 use Rattle.std.proofs.Common.{◌≡◌, ℕ, zero, suc, ◌+◌, ◌-◌, ◌<◌, ◌≤◌, ◌==◌, ◌&&◌, Bool, true, false, if◌then◌else◌, List, [], ◌∷◌, ◌++◌, length, map, take, drop, get_or, refl, sym, ap, subst, ◌∙◌, arith}
-use Rattle.std.specs.Prelude.{⊤, max, All}
-use Rattle.std.proofs.lemmas.List.{length-append, length-take, length-drop, take_all, take_more, map_more, map_push, get_or_default}
+use Rattle.std.specs.Prelude.{⊤, All}
+use Rattle.std.proofs.lemmas.List.{length-append, length-take, length-drop, take_all, take_more, map_push, get_or_default}
 use Rattle.std.proofs.lemmas.List.Elements.{All-append, All-cons, All-nil}
 use Rattle.std.proofs.lemmas.List.Folds.{list_any_at, list_any_none}
 use Rattle.std.proofs.lemmas.Option.{unwrap_or-slice_get}
-use Rattle.ssr_syntax_kinds.specs.Kinds.{is_trivia}
 use Rattle.ssr_syntax_kinds.specs.declared.kinds.SyntaxKind.{SyntaxKind}
 use Rattle.ssr_syntax_lex.specs.declared.tokens.RawToken.{RawToken}
 use Rattle.ssr_syntax_tree.specs.Syntax.{Syntax, Token, Forest, nothing, leaf, branch, node_count, height, depth_of, tokens_of}
-use Rattle.ssr_syntax_tree.specs.Places.{Node, nodes_of, node_of, token_of, start_of, end_of, depths_in, depths_of, depth_at, HasNode, HasToken}
+use Rattle.ssr_syntax_tree.specs.Places.{Node, nodes_of, node_of, token_of, start_of, end_of, depths_in, depth_at, HasNode, HasToken}
 use Rattle.ssr_syntax_tree.specs.declared.number.TokenNo.{TokenNo}
 use Rattle.ssr_syntax_tree.proofs.Shared.{length-nodes_of, length-tokens_in}
 use Rattle.ssr_syntax_forms.specs.Kinds.{mem}
 use Rattle.ssr_syntax_places.specs.PlainCore.{of_two, of_three, size_of_kind, solid_size}
 use Rattle.ssr_syntax_places.specs.Spans.{has_node_at}
 use Rattle.ssr_syntax_shorts.specs.Names.{place_of}
-use Rattle.ssr_syntax_shorts.specs.Told.{IsCut, AreTokens, solid_before}
+use Rattle.ssr_syntax_shorts.specs.Told.{IsCut, IsSolidAt, AreTokens, solid_before}
 use Rattle.ssr_syntax_shorts.specs.declared.stand_ins.Name.{Name}
 
 -- ** A text without white space around it.
@@ -117,17 +116,17 @@ number_more tree t has =
 -- ** Names that are tokens.
 
 pub tokens_none : (syntax : Syntax) (raw : List RawToken) → AreTokens syntax raw [] []
-tokens_none syntax raw = record { cuts = All-nil (IsCut raw); solid = All-nil (λ (t : TokenNo). is_trivia (token_of syntax t.0).kind ≡ false); same = refl }
+tokens_none syntax raw = record { cuts = All-nil (IsCut raw); solid = All-nil (IsSolidAt syntax); same = refl }
 
 pub tokens_more : (syntax : Syntax) (raw : List RawToken) (names : List Name) (tokens : List TokenNo) (i : ℕ) (name : Name) (token : TokenNo)
-    → i < length names → name ≡ get_or names i name → IsCut raw name → is_trivia (token_of syntax token.0).kind ≡ false
+    → i < length names → name ≡ get_or names i name → IsCut raw name → IsSolidAt syntax token
     → place_of syntax token.0 ≡ solid_before name.at raw
     → AreTokens syntax raw (take i names) tokens → AreTokens syntax raw (take (i + 1) names) (tokens ++ (token ∷ []))
 tokens_more syntax raw names tokens i name token less is cut solid same are =
     let f : TokenNo → ℕ = λ t. place_of syntax t.0 in
     let g : Name → ℕ = λ n. solid_before n.at raw in
     let P : Name → Type 0 = IsCut raw in
-    let Q : TokenNo → Type 0 = λ t. is_trivia (token_of syntax t.0).kind ≡ false in
+    let Q : TokenNo → Type 0 = IsSolidAt syntax in
     let one : take (i + 1) names ≡ take i names ++ (name ∷ []) =
     take_more names i name less ∙ ap (λ n. take i names ++ (n ∷ [])) (sym is) in
     record {

@@ -1,5 +1,5 @@
 -- What the tree of a short text has to be for the long text to be told by it.
-use Rattle.std.specs.Prelude.{◌≡◌, ℕ, ◌+◌, ◌-◌, ◌≤◌, nat_lt, ◌&&◌, not, Bool, true, false, List, map, All, count_by, Some}
+use Rattle.std.specs.Prelude.{◌≡◌, ℕ, ◌+◌, ◌-◌, ◌≤◌, nat_lt, ◌&&◌, not, true, false, List, map, All, count_by, Some}
 use Rattle.ssr_syntax_kinds.specs.Kinds.{is_trivia}
 use Rattle.ssr_syntax_lex.specs.Seams.{has_token_at}
 use Rattle.ssr_syntax_lex.specs.Tokens.{tokens}
@@ -21,10 +21,14 @@ IsCut raw name = (has_token_at (name.at - 1) raw ≡ true) × (has_token_at (nam
 abbrev pub solid_before : ℕ → List RawToken → ℕ
 solid_before byte raw = count_by (λ t. not (is_trivia t.kind) && nat_lt t.range.start byte) raw
 
+-- the token is neither white space nor a comment
+abbrev pub IsSolidAt : Syntax → TokenNo → Type 0
+IsSolidAt syntax t = is_trivia (token_of syntax t.0).kind ≡ false
+
 -- the names are tokens of a tree, with the numbers that they have among the raw tokens
 pub record AreTokens (syntax : Syntax) (raw : List RawToken) (names : List Name) (numbers : List TokenNo) : Type 0 where
   pub cuts : All (IsCut raw) names
-  pub solid : All (λ (t : TokenNo). is_trivia (token_of syntax t.0).kind ≡ false) numbers
+  pub solid : All (IsSolidAt syntax) numbers
   pub same : map (λ (t : TokenNo). place_of syntax t.0) numbers ≡ map (λ name. solid_before name.at raw) names
 
 -- The tree is core, with names in parentheses that are tokens, and the long text's tree isn't too deep.

@@ -1,6 +1,5 @@
 //! What is read of a short text in the place of the long one.
-ghost use Rattle.std.specs.Prelude.{◌≡◌, ◌+◌, ◌-◌, ◌<◌, ◌≤◌, ◌==◌, ◌&&◌, ℕ, List, [], ◌∷◌, false, IfOk, IfSome, IsTrue, Some};
-ghost use Rattle.ssr_syntax_kinds.specs.Kinds.{is_trivia};
+ghost use Rattle.std.specs.Prelude.{◌≡◌, ◌+◌, ◌-◌, ◌<◌, ◌≤◌, ◌==◌, ◌&&◌, ℕ, List, [], ◌∷◌, IfOk, IfSome, IsTrue, Some};
 ghost use Rattle.ssr_syntax_kinds.specs.declared.reach.Reach.{Reach};
 ghost use Rattle.ssr_syntax_lex.specs.Seams.{has_token_at};
 ghost use Rattle.ssr_syntax_lex.specs.Tokens.{tokens};
@@ -12,10 +11,10 @@ ghost use Rattle.ssr_syntax_places.specs.PlainCore.{of_three, of_two, size_of_ki
 ghost use Rattle.ssr_syntax_places.specs.Spans.{has_node_at};
 ghost use Rattle.ssr_syntax_shorts.specs.Names.{place_of};
 ghost use Rattle.ssr_syntax_shorts.specs.Shorts.{IsOutside, IsReadOf, IsShort, long_place};
-ghost use Rattle.ssr_syntax_shorts.specs.Told.{AreTokens, IsCut, IsTold, solid_before};
+ghost use Rattle.ssr_syntax_shorts.specs.Told.{AreTokens, IsCut, IsSolidAt, IsTold, solid_before};
 
-use crate::stand_ins::Name;
 use crate::short::Short;
+use crate::stand_ins::Name;
 use crate::walk::is_core;
 use ssr_syntax::{Fragment, Reach, SyntaxError, fragment_of};
 use ssr_syntax_kinds::SyntaxKind;
@@ -208,7 +207,7 @@ fn place_of(tree: &Tree, token: TokenNo) -> usize
 /// tokens.
 fn name_token(tree: &Tree, raw: &[RawToken], name: Name) -> Option<TokenNo>
     ensures cut { IfSome result (λ _. IsCut raw.now name) }
-    ensures solid { IfSome result (λ token. is_trivia (token_of tree.now token.0).kind ≡ false) }
+    ensures solid { IfSome result (λ token. IsSolidAt tree.now token) }
     ensures same { IfSome result (λ token. place_of tree.now token.0 ≡ solid_before name.at raw.now) }
 {
     if name.at > u32::MAX as usize || !is_cut(raw, name) {

@@ -2,8 +2,8 @@
 ghost use Rattle.std.specs.Prelude.{◌≡◌, ◌++◌, [], ◌∷◌, OnOk, IfOk, IfSome, map};
 ghost use Rattle.ssr_syntax_shorts.specs.Shorts.{IsReadOf, IsShort, as_it_is, in_parentheses, joined, moved};
 
-use crate::stand_ins::{Name, moved};
 use crate::reading::{ShortTree, read};
+use crate::stand_ins::{Name, moved};
 use ssr_syntax::Reach;
 use std::alloc::{AllocError, Global};
 use std::marker::Model;
