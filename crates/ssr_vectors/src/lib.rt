@@ -19,6 +19,8 @@ mod resolving;
 #[cfg(test)]
 mod rules;
 #[cfg(test)]
+mod shorts;
+#[cfg(test)]
 mod standing;
 #[cfg(test)]
 mod trees;

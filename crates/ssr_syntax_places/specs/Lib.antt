@@ -1,0 +1,9 @@
+pub mod Standing
+pub mod Delimited
+pub mod Core
+pub mod Insides
+pub mod Placing
+pub mod Woven
+pub mod LongTexts
+pub mod PlainCore
+pub mod Spans
