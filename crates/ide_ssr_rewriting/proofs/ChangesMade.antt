@@ -1,5 +1,5 @@
 -- The changes that a list makes.
-use Rattle.std.proofs.Common.{◌≡◌, ℕ, Bool, true, false, cond, List, [], ◌∷◌, ◌++◌, map, Option, Some, None, refl, sym, ◌∙◌, ap, subst, append_assoc, append-nil, String, unwrap_or, option_map, string_bytes}
+use Rattle.std.proofs.Common.{◌≡◌, ℕ, Bool, true, false, cond, List, [], ◌∷◌, ◌++◌, map, Option, Some, None, refl, sym, ◌∙◌, ap, subst, append_assoc, append-nil, String, unwrap_or, string_bytes}
 use Rattle.std.specs.Prelude.{if◌then◌else◌}
 use Rattle.std.specs.Global.{Global}
 use Rattle.std.specs.Option.{option_map_or}
@@ -72,16 +72,12 @@ ends cs all last rest so_far none =
 abbrev change : ℕ → ℕ → List ℕ → Change
 change start end text = record { start = start; end = end; text = text }
 
-bytes_or : (text : Option (String Global)) (d : String Global) → string_bytes d ≡ [] → string_bytes (unwrap_or text d) ≡ unwrap_or (option_map string_bytes text) []
-bytes_or None d e = e
-bytes_or (Some text) d e = refl
-
 -- the change that is made of a rewrite
-pub made_change : (range : FileRange) (text : Option (String Global)) (r : Rewrite) (new d : String Global)
-    → ◌≡◌ {A = Rewrite} (record { range = file_span_of range; text = option_map string_bytes text }) r → new ≡ unwrap_or text d → string_bytes d ≡ []
+pub made_change : (range : FileRange) (text : Option (List ℕ)) (r : Rewrite) (new : String Global)
+    → ◌≡◌ {A = Rewrite} (record { range = file_span_of range; text = text }) r → string_bytes new ≡ unwrap_or text []
     → pair_change (range.range, new) ≡ change_of r
-made_change range text r new d view is none =
-    ap (λ (bytes : List ℕ). change range.range.start range.range.end bytes) (ap string_bytes is ∙ bytes_or text d none) ∙ ap change_of view
+made_change range text r new view is =
+    ap (λ (bytes : List ℕ). change range.range.start range.range.end bytes) is ∙ ap change_of view
 
 pub pushed : (old new : List (TextRange × String Global)) (pair : TextRange × String Global) → new ≡ old ++ pair ∷ [] → changes_of new ≡ changes_of old ++ pair_change pair ∷ []
 pushed old new pair e = ap changes_of e ∙ map-append pair_change old (pair ∷ [])

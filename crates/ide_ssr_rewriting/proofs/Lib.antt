@@ -1,10 +1,13 @@
 mod Templates
 mod Tokens
 mod Passed
+mod Bound
+mod Parts
 mod FirstClashes
 mod ChangesMade
 mod Written
 mod Fittings
+mod Whole
 mod Texts
 mod Taken
 mod Pieces

@@ -1,6 +1,5 @@
 -- The placeholders of a match, one more at a time.
-use Rattle.std.proofs.Common.{◌≡◌, ℕ, zero, suc, ◌+◌, ◌<◌, ◌≤◌, ◌&&◌, Bool, true, false, List, [], ◌∷◌, ◌++◌, get_or, drop, length, Option, Some, None, refl, sym, ◌∙◌, ap, subst, arith, append_assoc, append-nil, String}
-use Rattle.std.specs.Global.{Global}
+use Rattle.std.proofs.Common.{◌≡◌, ℕ, zero, suc, ◌+◌, ◌<◌, ◌≤◌, ◌&&◌, Bool, true, false, List, [], ◌∷◌, ◌++◌, get_or, drop, length, Option, Some, None, refl, sym, ◌∙◌, ap, subst, arith, append_assoc, append-nil}
 use Rattle.std.specs.Prelude.{Contains, flat_map, if◌then◌else◌, is_some, option_map, option_to_list, slice_get, unwrap_or}
 use Rattle.std.specs.List.{enumerate_from}
 use Rattle.std.specs.Option.{IsSomeAnd, option_map_or}
@@ -70,7 +69,7 @@ abbrev pub clashes_in : (ℕ → List Rewrite) → List (ℕ × Binding) → Lis
 clashes_in lists bound = flat_map (λ p. clashes (lists p.0)) bound
 
 -- the texts that are left, where the lists of the first i placeholders of the match of the place n are taken
-pub record AreLeft (listing : Listing) (n i : ℕ) (old cur : List (Option (String Global))) : Type 0 where
+pub record AreLeft (listing : Listing) (n i : ℕ) (old cur : List (Option (List ℕ))) : Type 0 where
   pub counted : length cur ≡ length old
   pub left : (j : ℕ) → ((k : ℕ) → k < i → Contains (under listing n k) j → ⊥) → text_in cur j ≡ text_in old j
 
@@ -86,7 +85,7 @@ pub record AreNoted (m : FoundMatch) (lists : ℕ → List Rewrite) (i : ℕ) (w
   pub first : (others : List Clash) → IsFirst others was → IsFirst (before ++ others) now
 
 -- the first i placeholders of the match m of the place n are done
-pub record AreTaken (kept : Kept) (listing : Listing) (rules : List ResolvedRule) (m : FoundMatch) (n i : ℕ) (old cur : List (Option (String Global))) (clean : Bool) (pieces : List (List ℕ)) (was now : Option Clash) : Type 0 where
+pub record AreTaken (kept : Kept) (listing : Listing) (rules : List ResolvedRule) (m : FoundMatch) (n i : ℕ) (old cur : List (Option (List ℕ))) (clean : Bool) (pieces : List (List ℕ)) (was now : Option Clash) : Type 0 where
   pub texts : AreLeft listing n i old cur
   pub written : AreWritten kept.workspace rules m (list_under kept listing (text_in old) n) i clean pieces
   pub noted : AreNoted m (list_under kept listing (text_in old) n) i was now
@@ -107,7 +106,7 @@ apart kept listing is n i k j first second lt =
     omega arith
 
 -- what is left of the list of the placeholder that comes next is all of it
-pub list_left : (kept : Kept) (listing : Listing) → IsNest kept listing → (n i : ℕ) (old cur : List (Option (String Global)))
+pub list_left : (kept : Kept) (listing : Listing) → IsNest kept listing → (n i : ℕ) (old cur : List (Option (List ℕ)))
     → ((j : ℕ) → ((k : ℕ) → k < i → Contains (under listing n k) j → ⊥) → text_in cur j ≡ text_in old j)
     → list_at kept (text_in cur) (under listing n i) ≡ list_under kept listing (text_in old) n i
 list_left kept listing is n i old cur left =
@@ -151,7 +150,7 @@ pieces_more all rest old new false o text clean made so_far e m n sure =
     let wrong : false ≡ true = sym (m ∙ ap (λ (o : Option (List ℕ)). is_some o && clean) e) ∙ sure in
     absurd (cc wrong)
 
-pub left-more : (listing : Listing) (n i : ℕ) (old cur new : List (Option (String Global))) → AreLeft listing n i old cur → length new ≡ length cur
+pub left-more : (listing : Listing) (n i : ℕ) (old cur new : List (Option (List ℕ))) → AreLeft listing n i old cur → length new ≡ length cur
     → ((j : ℕ) → (Contains (under listing n i) j → ⊥) → text_in new j ≡ text_in cur j) → AreLeft listing n (i + 1) old new
 left-more listing n i old cur new so_far counted others = record {
   counted = counted ∙ so_far.counted;
@@ -196,7 +195,7 @@ by_clean : (all clean : Bool) (pieces whole : List (List ℕ)) → all ≡ clean
 by_clean all true pieces whole is same = rw is (ap Some (same refl))
 by_clean all false pieces whole is same = rw is refl
 
-pub taken_pieces : (kept : Kept) (listing : Listing) (rules : List ResolvedRule) (m : FoundMatch) (n i : ℕ) (old cur : List (Option (String Global))) (clean : Bool) (pieces : List (List ℕ)) (was now : Option Clash)
+pub taken_pieces : (kept : Kept) (listing : Listing) (rules : List ResolvedRule) (m : FoundMatch) (n i : ℕ) (old cur : List (Option (List ℕ))) (clean : Bool) (pieces : List (List ℕ)) (was now : Option Clash)
     → AreTaken kept listing rules m n i old cur clean pieces was now → length m.bindings ≤ i
     → (if clean then Some pieces else None) ≡ pieces_by kept.workspace rules m (list_under kept listing (text_in old) n)
 taken_pieces kept listing rules m n i old cur clean pieces was now all le =
@@ -206,7 +205,7 @@ taken_pieces kept listing rules m n i old cur clean pieces was now all le =
     (all.written.clean_lists ∙ (ap (λ (bound : List (ℕ × Binding)). clean && all_clean lists bound) none ∙ and-true clean))
     (λ sure. sym (append-nil pieces) ∙ (ap (λ (bound : List (ℕ × Binding)). pieces ++ pieces_of kept.workspace rules m lists bound) (sym none) ∙ all.written.written sure))
 
-pub taken_clashes : (kept : Kept) (listing : Listing) (rules : List ResolvedRule) (m : FoundMatch) (n i : ℕ) (old cur : List (Option (String Global))) (clean : Bool) (pieces : List (List ℕ)) (was now : Option Clash)
+pub taken_clashes : (kept : Kept) (listing : Listing) (rules : List ResolvedRule) (m : FoundMatch) (n i : ℕ) (old cur : List (Option (List ℕ))) (clean : Bool) (pieces : List (List ℕ)) (was now : Option Clash)
     → AreTaken kept listing rules m n i old cur clean pieces was now → length m.bindings ≤ i
     → (others : List Clash) → IsFirst others was → IsFirst (clashes_in (list_under kept listing (text_in old) n) (enumerate_from 0 m.bindings) ++ others) now
 taken_clashes kept listing rules m n i old cur clean pieces was now all le others h =

@@ -1,7 +1,6 @@
 -- The matches are gone through, one more at a time.
-use Rattle.std.proofs.Common.{◌≡◌, ℕ, ◌+◌, ◌<◌, inl, inr, List, ◌∷◌, ◌++◌, set, drop, length, Option, Some, None, sym, ◌∙◌, ap, subst, arith, String, string_bytes}
-use Rattle.std.specs.Global.{Global}
-use Rattle.std.specs.Prelude.{Contains, flat_map, option_map, slice_get, Result, Ok, Err}
+use Rattle.std.proofs.Common.{◌≡◌, ℕ, ◌+◌, ◌<◌, inl, inr, List, ◌∷◌, ◌++◌, set, drop, length, Option, Some, None, sym, ◌∙◌, ap, subst, arith}
+use Rattle.std.specs.Prelude.{Contains, flat_map, slice_get, Result, Ok, Err}
 use Rattle.std.specs.BTreeMap.{BTreeMap, get}
 use Rattle.std.specs.List.{enumerate_from}
 use Rattle.std.proofs.lemmas.Bool.{cases_eq}
@@ -40,7 +39,7 @@ not_outermost kept listing is n i j first second =
     cc
 
 -- what is stored for the lists under a match are the texts
-lists_known : (kept : Kept) (listing : Listing) (by : Writing) → IsNest kept listing → (n : ℕ) (stored : List (Option (String Global))) (clash : Option Clash)
+lists_known : (kept : Kept) (listing : Listing) (by : Writing) → IsNest kept listing → (n : ℕ) (stored : List (Option (List ℕ))) (clash : Option Clash)
     → IsRun kept listing by (n + 1) stored clash → list_under kept listing (text_in stored) n ≡ list_under kept listing (texts_of kept listing by) n
 lists_known kept listing by is n stored clash run =
     lists_same kept listing (text_in stored) (texts_of kept listing by) n (λ i j h.
@@ -58,10 +57,10 @@ clashes_here : (kept : Kept) (listing : Listing) (texts : Texts) (n : ℕ) (m : 
     → clashes_from kept listing texts n ≡ clashes_under m (list_under kept listing texts n) ++ clashes_from kept listing texts (n + 1)
 clashes_here kept listing texts n m at = ap (λ (ms : List (ℕ × FoundMatch)). flat_map (λ p. clashes_under p.1 (list_under kept listing texts p.0)) ms) (from_here kept n m at)
 
-pub run-more : (kept : Kept) (listing : Listing) (by : Writing) → IsNest kept listing → (n : ℕ) (m : FoundMatch) (stored cur : List (Option (String Global))) (text : Option (String Global)) (was now : Option Clash)
+pub run-more : (kept : Kept) (listing : Listing) (by : Writing) → IsNest kept listing → (n : ℕ) (m : FoundMatch) (stored cur : List (Option (List ℕ))) (text : Option (List ℕ)) (was now : Option Clash)
     → slice_get kept.matches n ≡ Some m → IsRun kept listing by (n + 1) stored was
     → length cur ≡ length stored → ((j : ℕ) → ((i : ℕ) → Contains (under listing n i) j → ⊥) → text_in cur j ≡ text_in stored j)
-    → option_map string_bytes text ≡ text_by kept.workspace by m (list_under kept listing (text_in stored) n)
+    → text ≡ text_by kept.workspace by m (list_under kept listing (text_in stored) n)
     → ((others : List Clash) → IsFirst others was → IsFirst (clashes_under m (list_under kept listing (text_in stored) n) ++ others) now)
     → IsRun kept listing by n (set cur n text) now
 run-more kept listing by is n m stored cur text was now at run counted left made clash =
@@ -73,10 +72,10 @@ run-more kept listing by is n m stored cur text was now at run counted left made
       known = λ j le lt free. elim (cases_eq j n) [
         | inl e ↦
             ap (text_in (set cur n text)) e
-            ∙ (ap (option_map string_bytes) (get_or-set_same cur n text None within)
+            ∙ (get_or-set_same cur n text None within
             ∙ (made ∙ (ap (text_by kept.workspace by m) same ∙ (sym (are_texts kept listing by is n m at) ∙ ap (texts_of kept listing by) (sym e)))))
         | inr other ↦
-            ap (option_map string_bytes) (get_or-set_other cur n j text None other)
+            get_or-set_other cur n j text None other
             ∙ (left j (λ i h. free n i (omega arith) h) ∙ run.known j (omega arith) lt (λ k i le h. free k i (omega arith) h))
       ];
       first = subst (λ (cs : List Clash). IsFirst cs now) (sym (clashes_here kept listing (texts_of kept listing by) n m at))
@@ -84,7 +83,7 @@ run-more kept listing by is n m stored cur text was now at run counted left made
           (clash (clashes_from kept listing (texts_of kept listing by) (n + 1)) run.first));
     }
 
-pub run-starts : (kept : Kept) (listing : Listing) (by : Writing) (n : ℕ) (stored : List (Option (String Global))) (clash : Option Clash)
+pub run-starts : (kept : Kept) (listing : Listing) (by : Writing) (n : ℕ) (stored : List (Option (List ℕ))) (clash : Option Clash)
     → n ≡ length kept.matches → length stored ≡ n → clash ≡ None → IsRun kept listing by n stored clash
 run-starts kept listing by n stored clash all counted none = record {
   counted = counted ∙ all;
@@ -94,7 +93,7 @@ run-starts kept listing by n stored clash all counted none = record {
 }
 
 -- what is stored for the outermost ones in the end are the texts
-pub outermost_known : (kept : Kept) (listing : Listing) (by : Writing) → IsNest kept listing → (stored : List (Option (String Global))) (clash : Option Clash)
+pub outermost_known : (kept : Kept) (listing : Listing) (by : Writing) → IsNest kept listing → (stored : List (Option (List ℕ))) (clash : Option Clash)
     → IsRun kept listing by 0 stored clash → list_at kept (text_in stored) (listed listing None) ≡ outermost_list kept listing (texts_of kept listing by)
 outermost_known kept listing by is stored clash run =
     list_same kept (text_in stored) (texts_of kept listing by) (listed listing None) (λ j h.
@@ -102,7 +101,7 @@ outermost_known kept listing by is stored clash run =
 
 -- ** The answer.
 
-pub first_of_all : (kept : Kept) (listing : Listing) (by : Writing) → IsNest kept listing → (stored : List (Option (String Global))) (was first now : Option Clash) (list : List Rewrite)
+pub first_of_all : (kept : Kept) (listing : Listing) (by : Writing) → IsNest kept listing → (stored : List (Option (List ℕ))) (was first now : Option Clash) (list : List Rewrite)
     → IsRun kept listing by 0 stored was → list ≡ list_at kept (text_in stored) (listed listing None) → IsFirst (clashes list) first → now ≡ lesser first was
     → IsFirst (all_clashes kept listing (texts_of kept listing by)) now
 first_of_all kept listing by is stored was first now list run taken told noted =
@@ -111,7 +110,7 @@ first_of_all kept listing by is stored was first now list run taken told noted =
     (IsFirst-append (clashes (outermost_list kept listing (texts_of kept listing by))) (clashes_from kept listing (texts_of kept listing by) 0) first was
     (subst (λ (list : List Rewrite). IsFirst (clashes list) first) here told) run.first)
 
-pub edited : (kept : Kept) (listing : Listing) (by : Writing) → IsNest kept listing → (stored : List (Option (String Global))) (was now : Option Clash) (list : List Rewrite) (edits : BTreeMap FileId (List Change))
+pub edited : (kept : Kept) (listing : Listing) (by : Writing) → IsNest kept listing → (stored : List (Option (List ℕ))) (was now : Option Clash) (list : List Rewrite) (edits : BTreeMap FileId (List Change))
     → IsRun kept listing by 0 stored was → list ≡ list_at kept (text_in stored) (listed listing None) → IsFirst (all_clashes kept listing (texts_of kept listing by)) now → now ≡ None
     → ((file : FileId) → get file_cmp edits file ≡ edit_of kept.workspace file.0 list) → Answers kept listing by (Ok edits)
 edited kept listing by is stored was now list edits run taken first none each = (

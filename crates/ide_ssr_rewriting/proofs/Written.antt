@@ -45,17 +45,18 @@ all_fit w range list is =
     (All-weaker (λ r. LiesIn r.range (file_span_of range) × FitsItsFile w r.range) (λ r. ChangeFits w range (change_of r))
     (λ r h. change_fits w range r h.0 h.1) list is.each))
 
-module _ (w : Workspace) (range : FileRange) (o : Option FileRange) (list : List Rewrite) (is : o ≡ Some range)
-    (h : IfSome (option_map file_span_of o) (λ range. IsOf w range list)) (text : List ℕ) (whole : text ≡ file_text w range.file_id.0) where
-  here : IsOf w (file_span_of range) list
-  here = subst (λ (o : Option FileRange). IfSome (option_map file_span_of o) (λ range. IsOf w range list)) is h
+-- what is asked of a range, if there is one
+pub of_range : (w : Workspace) (range : FileRange) (o : Option FileRange) (list : List Rewrite) → o ≡ Some range
+    → IfSome (option_map file_span_of o) (λ range. IsOf w range list) → IsOf w (file_span_of range) list
+of_range w range o list is h = subst (λ (o : Option FileRange). IfSome (option_map file_span_of o) (λ range. IsOf w range list)) is h
 
+module _ (w : Workspace) (range : FileRange) (list : List Rewrite) (is : IsOf w (file_span_of range) list) (text : List ℕ) (whole : text ≡ file_text w range.file_id.0) where
   pub begins_between : IsCharBoundary text range.range.start
-  begins_between = subst (λ (text : List ℕ). IsCharBoundary text range.range.start) (sym whole) (boundary_of (file_text w range.file_id.0) range.range.start here.fits.begins)
+  begins_between = subst (λ (text : List ℕ). IsCharBoundary text range.range.start) (sym whole) (boundary_of (file_text w range.file_id.0) range.range.start is.fits.begins)
 
   pub ends_between : IsCharBoundary text range.range.end
-  ends_between = subst (λ (text : List ℕ). IsCharBoundary text range.range.end) (sym whole) (boundary_of (file_text w range.file_id.0) range.range.end here.fits.ends)
+  ends_between = subst (λ (text : List ℕ). IsCharBoundary text range.range.end) (sym whole) (boundary_of (file_text w range.file_id.0) range.range.end is.fits.ends)
 
   pub changes_fit : (changes : List Change) → changes ≡ changes_made list → All (FitsPart text range.range) changes
   changes_fit changes e =
-      subst (λ (text : List ℕ). All (FitsPart text range.range) changes) (sym whole) (subst (All (ChangeFits w range)) (sym e) (all_fit w range list here))
+      subst (λ (text : List ℕ). All (FitsPart text range.range) changes) (sym whole) (subst (All (ChangeFits w range)) (sym e) (all_fit w range list is))

@@ -4,6 +4,8 @@ pub mod Replacements
 pub mod Nest
 pub mod Edits
 pub mod Pieces
+pub mod Parts
+pub mod Comments
 pub mod Groups
 pub mod Fitting
 pub mod Files

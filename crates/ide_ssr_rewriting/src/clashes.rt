@@ -1,14 +1,15 @@
 //! What stands for the matches of one list, its first clash, and the changes that it makes.
 
-ghost use Rattle.std.specs.Prelude.{◌≡◌, IfOk, false, is_some, option_map, string_bytes};
+ghost use Rattle.std.specs.Prelude.{◌≡◌, [], ◌∷◌, IfErr, IfOk, Some, false, is_some, option_map, string_bytes, unwrap_or};
 ghost use Rattle.std.specs.Option.{option_map_or};
 ghost use Rattle.ssr_base_trees.specs.Applied.{changes_of};
 ghost use Rattle.ssr_base_trees.specs.Workspace.{file_span_of};
-ghost use Rattle.ide_ssr_rewriting.specs.Clashes.{IsFirst, changes_made, clash_of, clashes, differ, is_clash, same_range, share_byte};
-ghost use Rattle.ide_ssr_rewriting.specs.Private.Clashes.{AreInOrder, first_behind, stands_for};
+ghost use Rattle.ide_ssr_rewriting.specs.Clashes.{IsFirst, Rewrite as RewriteValue, changes_made, clash_of, clashes, differ, is_clash, same_range, share_byte};
+ghost use Rattle.ide_ssr_rewriting.specs.Private.Clashes.{AreInOrder, first_behind, is_whole, stands_for};
 
 use ssr_base_trees::FileRange;
 use ssr_syntax_kinds::TextRange;
+use ssr_syntax_shorts::MadeText;
 use std::alloc::{AllocError, Global};
 use std::marker::Model;
 
@@ -16,17 +17,16 @@ use std::marker::Model;
 #[derive(Drop)]
 pub(crate) struct Rewrite {
     range: FileRange,
-    text: Option<String>,
+    text: Option<MadeText>,
 }
 
 impl Model for Rewrite {
-    ghost use Rattle.std.specs.Prelude.{option_map, string_bytes};
     ghost use Rattle.ssr_base_trees.specs.Workspace.{file_span_of};
     ghost use Rattle.ide_ssr_rewriting.specs.Clashes.{Rewrite as RewriteValue};
 
     ghost Value = { RewriteValue };
 
-    ghost view = { λ r. record { range = file_span_of r.range; text = option_map string_bytes r.text } };
+    ghost view = { λ r. record { range = file_span_of r.range; text = r.text } };
 }
 
 /// Whether two ranges are one.
@@ -44,9 +44,9 @@ fn share_byte(a: FileRange, b: FileRange) -> bool
 }
 
 impl Rewrite {
-    pub(crate) fn new(range: FileRange, text: Option<String>) -> Rewrite
+    pub(crate) fn new(range: FileRange, text: Option<MadeText>) -> Rewrite
         ensures range { result.range ≡ file_span_of range }
-        ensures text { result.text ≡ option_map string_bytes text }
+        ensures text { result.text ≡ text }
     {
         Rewrite { range, text }
     }
@@ -55,6 +55,14 @@ impl Rewrite {
         ensures { file_span_of result ≡ self.now.range }
     {
         self.range
+    }
+
+    /// The text, if one is known.
+    fn into_text(self) -> Option<MadeText>
+        ensures { result ≡ self.text }
+    {
+        let Rewrite { text, .. } = self;
+        text
     }
 
     /// Whether a text is known.
@@ -128,6 +136,16 @@ fn is_last(last: Option<FileRange>, range: FileRange) -> bool
     }
 }
 
+/// The text that stands for a range; nothing, where none is known.
+fn spelled(alloc: Global, text: Option<MadeText>) -> String
+    ensures { string_bytes result ≡ unwrap_or text [] }
+{
+    match text {
+        Some(text) => text.into_string(),
+        None => String::new(alloc),
+    }
+}
+
 /// The changes that a list makes; those of one range count once.
 pub(crate) fn changes_made(
     alloc: Global,
@@ -142,8 +160,44 @@ pub(crate) fn changes_made(
         if is_last(last, range) {
             continue;
         }
-        changes.push((range.range, text.unwrap_or(String::new(alloc))))?;
+        changes.push((range.range, spelled(alloc, text)))?;
         last = Some(range);
     }
     Ok(changes)
+}
+
+/// Whether a list has one rewrite alone, of this range and with a text that is known.
+fn is_whole(range: FileRange, list: &[Rewrite]) -> bool
+    ensures { result ≡ is_whole (file_span_of range) list.now }
+{
+    match list {
+        [only] => only.is_known() && same_range(only.range(), range),
+        _ => false,
+    }
+}
+
+/// Takes the last one off a list; answers its text, if one is known.
+fn pop_text(list: &mut Vec<Rewrite>) -> Option<MadeText>
+    ensures { (r : RewriteValue) → list.old.items ≡ r ∷ [] → result ≡ r.text }
+{
+    list.pop()?.into_text()
+}
+
+/// The text of a list's only rewrite, if it has the whole range and no text stands in front; else the list.
+pub(crate) fn try_whole(
+    front: &str,
+    range: FileRange,
+    mut list: Vec<Rewrite>,
+) -> Result<MadeText, Vec<Rewrite>>
+    ensures whole { IfOk result (λ text. (front.now ≡ []) × (list.items ≡ record { range = file_span_of range; text = Some text } ∷ [])) }
+    ensures list { IfErr result (λ left. left.items ≡ list.items) }
+    ensures part { IfErr result (λ _. front.now ≡ [] → is_whole (file_span_of range) list.items ≡ false) }
+{
+    if !front.is_empty() || !is_whole(range, &list) {
+        return Err(list);
+    }
+    match pop_text(&mut list) {
+        Some(text) => Ok(text),
+        None => Err(list),
+    }
 }

@@ -1,10 +1,11 @@
 //! The comments that a match keeps: those below its node that no placeholder holds.
 
-ghost use Rattle.std.specs.Prelude.{◌≡◌, ◌++◌, All, IfOk, OnOk, string_bytes};
-ghost use Rattle.ssr_syntax_tree.specs.Places.{HasNode, HasToken, node_of};
+ghost use Rattle.std.specs.Prelude.{◌≡◌, ◌++◌, ◌==◌, ◌&&◌, All, IfOk, OnOk, string_bytes};
+ghost use Rattle.ssr_syntax_tree.specs.Places.{HasNode, HasToken, node_of, token_of};
 ghost use Rattle.ssr_base_trees.specs.Workspace.{run_of};
 ghost use Rattle.ide_ssr_bindings.specs.Apart.{HasHeld, tokens_held};
-ghost use Rattle.ide_ssr_rewriting.specs.Comments.{is_comment, is_among, is_bound, is_kept_comment, kept_comments, comment_text, comments_text};
+ghost use Rattle.ide_ssr_rewriting.specs.Comments.{is_comment, kept_comments, comment_text, comments_text};
+ghost use Rattle.ide_ssr_rewriting.specs.Private.Comments.{left_in, bound_from};
 
 use ide_ssr_bindings::{Binding, Held};
 use ssr_base_trees::TokenRun;
@@ -19,49 +20,60 @@ fn is_comment(kind: SyntaxKind) -> bool
     matches!(kind, SyntaxKind::COMMENT)
 }
 
-/// Whether the token lies below the node.
-fn is_below(tree: &Tree, node: NodeNo, token: TokenNo) -> bool
-    requires { HasNode tree.now node.0 }
-    ensures { result ≡ is_among (run_of (node_of tree.now node.0)) token }
-{
-    let tokens = tree.tokens_below(node);
-    tokens.start <= token.0 && token.0 < tokens.end
-}
-
-/// Whether the token is one of these.
-fn is_among(run: TokenRun, token: TokenNo) -> bool
-    ensures { result ≡ is_among run token }
-{
-    run.first <= token.0 && (token.0 as u64) < run.first as u64 + run.count as u64
-}
-
-/// Whether the token is one of those that are held.
-fn is_held(tree: &Tree, held: Held, token: TokenNo) -> bool
+/// The tokens that are held.
+fn tokens_held(tree: &Tree, held: Held) -> TokenRun
     requires { HasHeld tree.now held }
-    ensures { result ≡ is_among (tokens_held tree.now held) token }
+    ensures { result ≡ tokens_held tree.now held }
 {
     match held {
-        Held::Node(node) => is_below(tree, node, token),
-        Held::Tokens(run) => is_among(run, token),
+        Held::Node(node) => run_of(tree, node),
+        Held::Tokens(run) => run,
     }
 }
 
-/// Whether one of the placeholders holds the token.
-fn is_bound(tree: &Tree, bindings: &[Binding], token: TokenNo) -> bool
-    requires { All (λ binding. HasHeld tree.now binding.held) bindings.now }
-    ensures { result ≡ is_bound tree.now bindings.now token }
+/// The tokens of the node.
+fn run_of(tree: &Tree, node: NodeNo) -> TokenRun
+    requires { HasNode tree.now node.0 }
+    ensures { result ≡ run_of (node_of tree.now node.0) }
 {
-    bindings
-        .iter()
-        .any(|binding| is_held(tree, binding.held, token))
+    let tokens = tree.tokens_below(node);
+    TokenRun {
+        first: tokens.start,
+        count: tokens.end - tokens.start,
+    }
 }
 
-fn is_kept_comment(tree: &Tree, bindings: &[Binding], token: TokenNo) -> bool
-    requires bindings { All (λ binding. HasHeld tree.now binding.held) bindings.now }
-    requires token { HasToken tree.now token.0 }
-    ensures { result ≡ is_kept_comment tree.now bindings.now token }
+/// How many tokens of the run come from this one on; none where it is none of the run.
+fn left_in(run: TokenRun, token: TokenNo) -> u32
+    ensures { result ≡ left_in run token }
 {
-    is_comment(tree.token_kind(token)) && !is_bound(tree, bindings, token)
+    if run.first <= token.0 {
+        run.count.saturating_sub(token.0 - run.first)
+    } else {
+        0
+    }
+}
+
+/// How many tokens come from this one on in the first run with it that a placeholder holds; none where none holds it.
+fn bound_from(tree: &Tree, bindings: &[Binding], token: TokenNo) -> u32
+    requires { All (λ binding. HasHeld tree.now binding.held) bindings.now }
+    ensures { result ≡ bound_from tree.now token bindings.now }
+{
+    for binding in bindings {
+        let held = left_in(tokens_held(tree, binding.held), token);
+        if held > 0 {
+            return held;
+        }
+    }
+    0
+}
+
+/// Whether the token, from which on so many tokens are held, is a comment that no placeholder holds.
+fn is_kept_comment(tree: &Tree, token: TokenNo, held: u32) -> bool
+    requires { HasToken tree.now token.0 }
+    ensures { result ≡ (is_comment (token_of tree.now token.0).kind && held == 0) }
+{
+    is_comment(tree.token_kind(token)) && held == 0
 }
 
 /// The comments that a match at the node keeps, which binds these, in order.
@@ -78,11 +90,15 @@ pub fn kept_comments(
 {
     let mut comments = Vec::new(alloc);
     let tokens = tree.tokens_below(node);
-    for number in tokens.start..tokens.end {
+    let mut number = tokens.start;
+    while number < tokens.end {
         let token = TokenNo(number);
-        if is_kept_comment(tree, bindings, token) {
+        let bound = bound_from(tree, bindings, token);
+        if is_kept_comment(tree, token, bound) {
             comments.push(token)?;
         }
+        // What a placeholder holds is passed over.
+        number += bound.max(1).min(tokens.end - number);
     }
     Ok(comments)
 }

@@ -1,7 +1,6 @@
 //! The texts of the kept matches, the first clash of all their lists, and the edits of the files.
 
-ghost use Rattle.std.specs.Prelude.{◌≡◌, ◌≢◌, ◌+◌, ◌-◌, ◌<◌, ◌↔◌, [], ℕ, All, AllPairs, IfNone, IfOk, IfSome, IsTrue, OnOk, Contains, List, None, Some, ◌++◌, is_some, length, map, option_map, option_to_list, slice_get, slice_index_or, string_bytes, if◌then◌else◌};
-ghost use Rattle.std.specs.Cow.{cow_str_bytes};
+ghost use Rattle.std.specs.Prelude.{◌≡◌, ◌≢◌, ◌+◌, ◌-◌, ◌<◌, ◌↔◌, [], ℕ, All, AllPairs, IfNone, IfOk, IfSome, IsTrue, OnOk, Contains, List, None, Some, ◌++◌, is_some, length, map, option_map, option_to_list, slice_get, slice_index_or, if◌then◌else◌};
 ghost use Rattle.std.specs.List.{list_all};
 ghost use Rattle.std.specs.Ordering.{nat_cmp, ordering_then};
 ghost use Rattle.std.specs.BTreeMap.{get};
@@ -15,12 +14,13 @@ ghost use Rattle.ide_ssr_rewriting.specs.Private.Nest.{IsNest, under};
 ghost use Rattle.ide_ssr_rewriting.specs.Private.Clashes.{AreInOrder, lesser};
 ghost use Rattle.ide_ssr_rewriting.specs.Private.Edits.{IsRun, text_in};
 ghost use Rattle.ide_ssr_rewriting.specs.Private.Groups.{IsGroup, LastElsewhere};
-ghost use Rattle.ide_ssr_rewriting.specs.Private.Pieces.{pieces_by};
+ghost use Rattle.ide_ssr_rewriting.specs.Private.Pieces.{piece_bytes, pieces_by};
 ghost use Rattle.ide_ssr_rewriting.specs.Private.Replacements.{IsOf};
 ghost use Rattle.ide_ssr_rewriting.specs.Replacements.{held_text, writing};
 
 use crate::clashes::{Rewrite, changes_made, first_clash};
 use crate::files::fitted_in;
+use crate::piece::Piece;
 use crate::prefixes::with_prefix;
 use crate::replacements::held_text;
 use crate::writer::Writer;
@@ -29,8 +29,8 @@ use ide_ssr_nesting::{KeptMatches, Lists};
 use ide_ssr_resolved_rule::ResolvedRule;
 use ssr_base_trees::{FileId, FileRange, Semantics, TextEdit, Trees};
 use ssr_syntax_kinds::TextRange;
+use ssr_syntax_shorts::MadeText;
 use std::alloc::{AllocError, Global};
-use std::borrow::CowStr;
 use std::cmp::Ordering;
 use std::collections::BTreeMap;
 use std::mem;
@@ -103,12 +103,12 @@ struct Nest<'n, 'a> {
 /// lists.
 #[derive(Drop)]
 struct Pending {
-    texts: Vec<Option<String>>,
+    texts: Vec<Option<MadeText>>,
     clash: Option<(FileRange, FileRange)>,
 }
 
 /// No text for each of so many matches.
-fn none_known(alloc: Global, count: usize) -> Result<Vec<Option<String>>, AllocError>
+fn none_known(alloc: Global, count: usize) -> Result<Vec<Option<MadeText>>, AllocError>
     ensures { IfOk result (λ texts. length texts.items ≡ count) }
 {
     let mut texts = Vec::with_capacity(alloc, count)?;
@@ -137,7 +137,7 @@ fn take_list(
     alloc: Global,
     kept: &KeptMatches<'_>,
     places: &[usize],
-    texts: &mut Vec<Option<String>>,
+    texts: &mut Vec<Option<MadeText>>,
 ) -> Result<Vec<Rewrite>, AllocError>
     requires counted { length texts.old.items ≡ length kept.now.matches }
     requires within { All (λ n. n < length kept.now.matches) places.now }
@@ -175,10 +175,10 @@ fn held_if_clean<'a>(
     range: Option<FileRange>,
     list: Vec<Rewrite>,
     clash: Option<(FileRange, FileRange)>,
-) -> Result<Option<CowStr<'a>>, AllocError>
+) -> Result<Option<Piece<'a>>, AllocError>
     requires clash { IsFirst (clashes list.items) (option_map clash_of clash) }
     requires list { IfSome (option_map file_span_of range) (λ range. IsOf workspace.now range list.items) }
-    ensures { IfOk result (λ text. option_map cow_str_bytes text ≡ (if is_clean list.items then Some (held_text workspace.now front.now (option_map file_span_of range) list.items) else None)) }
+    ensures { IfOk result (λ text. option_map piece_bytes text ≡ (if is_clean list.items then Some (held_text workspace.now front.now (option_map file_span_of range) list.items) else None)) }
 {
     if clash.is_some() || !all_known(&list) {
         return Ok(None);
@@ -187,12 +187,9 @@ fn held_if_clean<'a>(
 }
 
 /// Pushes a piece, if there is one; answers whether there was.
-fn push_piece<'a>(
-    pieces: &mut Vec<CowStr<'a>>,
-    piece: Option<CowStr<'a>>,
-) -> Result<bool, AllocError>
-    ensures there { IfOk result (λ there. there ≡ is_some (option_map cow_str_bytes piece.entry)) }
-    ensures pieces { OnOk result (map cow_str_bytes pieces.new.items ≡ map cow_str_bytes pieces.old.items ++ option_to_list (option_map cow_str_bytes piece.entry)) }
+fn push_piece<'a>(pieces: &mut Vec<Piece<'a>>, piece: Option<Piece<'a>>) -> Result<bool, AllocError>
+    ensures there { IfOk result (λ there. there ≡ is_some (option_map piece_bytes piece.entry)) }
+    ensures pieces { OnOk result (map piece_bytes pieces.new.items ≡ map piece_bytes pieces.old.items ++ option_to_list (option_map piece_bytes piece.entry)) }
 {
     match piece {
         Some(piece) => {
@@ -235,12 +232,12 @@ impl Pending {
         nest: &Nest<'_, 'a>,
         m: &FoundMatch,
         place: usize,
-        pieces: &mut Vec<CowStr<'a>>,
+        pieces: &mut Vec<Piece<'a>>,
     ) -> Result<bool, AllocError>
         requires nest { IsNest nest.now.kept.now nest.now.lists.now }
         requires m { slice_get nest.now.kept.now.matches place ≡ Some m.now }
         requires counted { length self.old.texts.items ≡ length nest.now.kept.now.matches }
-        ensures pieces { IfOk result (λ are_all. (if are_all then Some (map cow_str_bytes pieces.new.items) else None) ≡ pieces_by nest.now.kept.now.workspace writer.now.rules.now m.now (list_under nest.now.kept.now nest.now.lists.now (text_in self.old.texts.items) place)) }
+        ensures pieces { IfOk result (λ are_all. (if are_all then Some (map piece_bytes pieces.new.items) else None) ≡ pieces_by nest.now.kept.now.workspace writer.now.rules.now m.now (list_under nest.now.kept.now nest.now.lists.now (text_in self.old.texts.items) place)) }
         ensures clash { OnOk result ((others : List Clash) → IsFirst others (option_map clash_of self.old.clash) → IsFirst (clashes_under m.now (list_under nest.now.kept.now nest.now.lists.now (text_in self.old.texts.items) place) ++ others) (option_map clash_of self.new.clash)) }
         ensures left { OnOk result ((j : ℕ) → ((i : ℕ) → Contains (under nest.now.lists.now place i) j → ⊥) → text_in self.new.texts.items j ≡ text_in self.old.texts.items j) }
         ensures counted { OnOk result (length self.new.texts.items ≡ length self.old.texts.items) }
@@ -263,7 +260,7 @@ impl Pending {
                 list,
                 first,
             )?;
-            let piece = with_prefix(prefix, held)?;
+            let piece = with_prefix(nest.kept.workspace().reach(), prefix, held)?;
             are_all = push_piece(pieces, piece)? && are_all;
         }
         Ok(are_all)
@@ -275,7 +272,7 @@ impl Pending {
         writer: &Writer<'_, S>,
         nest: &Nest<'_, 'a>,
         place: usize,
-        pieces: &mut Vec<CowStr<'a>>,
+        pieces: &mut Vec<Piece<'a>>,
     ) -> Result<(), AllocError>
         requires nest { IsNest nest.now.kept.now nest.now.lists.now }
         requires place { place < length nest.now.kept.now.matches }

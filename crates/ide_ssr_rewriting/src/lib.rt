@@ -7,6 +7,7 @@ mod editing;
 mod files;
 mod fitting;
 pub mod laws;
+mod piece;
 mod prefixes;
 mod printing;
 mod rendering;

@@ -1,13 +1,15 @@
 //! What is written in front of what a placeholder holds.
 
 ghost use Rattle.std.specs.Prelude.{◌≡◌, ◌++◌, [], false, IfOk, OnOk, option_map, replicate, string_bytes};
-ghost use Rattle.std.specs.Cow.{cow_str_bytes};
+ghost use Rattle.ide_ssr_rewriting.specs.Private.Pieces.{piece_bytes};
 ghost use Rattle.ide_ssr_rewriting.specs.Replacements.{prefix, taken_as};
 
+use crate::piece::Piece;
 use ide_ssr_bindings::Binding;
 use ssr_base_trees::SelfKind;
+use ssr_syntax::Reach;
+use ssr_syntax_shorts::MadeText;
 use std::alloc::{AllocError, Global};
-use std::borrow::CowStr;
 
 /// How a method takes what it is called on.
 fn taken_as(self_kind: SelfKind) -> &'static str
@@ -50,26 +52,27 @@ pub(crate) fn prefix(alloc: Global, binding: Binding) -> Result<String, AllocErr
 }
 
 /// A text with another one in front of it.
-fn behind(prefix: String, held: CowStr<'_>) -> Result<CowStr<'_>, AllocError>
-    ensures { IfOk result (λ text. cow_str_bytes text ≡ string_bytes prefix ++ cow_str_bytes held.entry) }
+fn behind(reach: Reach, prefix: String, held: Piece<'_>) -> Result<Piece<'_>, AllocError>
+    ensures { IfOk result (λ text. piece_bytes text ≡ string_bytes prefix ++ piece_bytes held.entry) }
 {
     if prefix.is_empty() {
         return Ok(held);
     }
     let mut text = prefix;
     text.push_str(held.as_str())?;
-    Ok(CowStr::Owned(text))
+    Ok(Piece::Made(MadeText::new(reach, text)))
 }
 
 /// What a placeholder holds, if it can be made, with a text in front of it.
 pub(crate) fn with_prefix(
+    reach: Reach,
     prefix: String,
-    held: Option<CowStr<'_>>,
-) -> Result<Option<CowStr<'_>>, AllocError>
-    ensures { IfOk result (λ piece. option_map cow_str_bytes piece ≡ option_map (λ text. string_bytes prefix ++ text) (option_map cow_str_bytes held.entry)) }
+    held: Option<Piece<'_>>,
+) -> Result<Option<Piece<'_>>, AllocError>
+    ensures { IfOk result (λ piece. option_map piece_bytes piece ≡ option_map (λ text. string_bytes prefix ++ text) (option_map piece_bytes held.entry)) }
 {
     match held {
-        Some(held) => Ok(Some(behind(prefix, held)?)),
+        Some(held) => Ok(Some(behind(reach, prefix, held)?)),
         None => Ok(None),
     }
 }

@@ -1,20 +1,21 @@
 //! What files and their comments give to what is written for a match.
 
 ghost use Rattle.std.specs.Prelude.{◌≡◌, ◌++◌, IfOk, IfSome, OnOk, option_map, string_bytes};
-ghost use Rattle.std.specs.Cow.{cow_str_bytes};
+ghost use Rattle.ide_ssr_rewriting.specs.Private.Pieces.{piece_bytes};
 ghost use Rattle.ssr_base_trees.specs.Workspace.{file_span_of, trees};
 ghost use Rattle.ide_ssr_bindings.specs.Found.{IsMatch};
-ghost use Rattle.ide_ssr_rewriting.specs.Replacements.{comments_kept, file_text, held_text};
+ghost use Rattle.ide_ssr_rewriting.specs.Replacements.{comments_kept, file_text, held_text, rewritten};
 ghost use Rattle.ide_ssr_rewriting.specs.Private.Replacements.{IsOf};
 
-use crate::clashes::{Rewrite, changes_made};
+use crate::clashes::{Rewrite, changes_made, try_whole};
 use crate::comments::{kept_comments, push_comments};
 use crate::fitting::fitted;
+use crate::piece::Piece;
 use ide_ssr_bindings::FoundMatch;
 use ssr_base_trees::{FileId, FileRange, Trees};
 use ssr_standing::{between, replaced};
+use ssr_syntax_shorts::MadeText;
 use std::alloc::{AllocError, Global};
-use std::borrow::CowStr;
 
 /// The text of a file; none where there is no such file.
 fn file_text(workspace: &Trees, file: FileId) -> &str
@@ -29,30 +30,53 @@ fn file_text(workspace: &Trees, file: FileId) -> &str
     }
 }
 
+/// The text of a range with the changes of a list made, some of them in parentheses so that it groups as before behind the text in
+/// front.
+fn rewritten(
+    alloc: Global,
+    workspace: &Trees,
+    front: &str,
+    range: FileRange,
+    list: Vec<Rewrite>,
+) -> Result<MadeText, AllocError>
+    requires { IsOf workspace.now (file_span_of range) list.items }
+    ensures { IfOk result (λ text. text ≡ rewritten workspace.now front.now (file_span_of range) list.items) }
+{
+    let text = file_text(workspace, range.file_id);
+    let made = changes_made(alloc, list)?;
+    let changes = fitted(alloc, workspace.reach(), front, text, range.range, made)?;
+    let new = replaced(alloc, text, range.range, &changes)?;
+    Ok(MadeText::new(workspace.reach(), new))
+}
+
 /// What a placeholder holds, which comes from this range, with the changes of a list made, some of them in parentheses so that it
-/// groups as before behind the text in front. Without a list it is a part of its file's text.
+/// groups as before behind the text in front. Without a list it is a part of its file's text. The text of a rewrite that stands
+/// alone is handed on as it is, with its short one.
 pub(crate) fn held_text<'a>(
     alloc: Global,
     workspace: &'a Trees,
     front: &str,
     range: Option<FileRange>,
     list: Vec<Rewrite>,
-) -> Result<CowStr<'a>, AllocError>
+) -> Result<Piece<'a>, AllocError>
     requires { IfSome (option_map file_span_of range) (λ range. IsOf workspace.now range list.items) }
-    ensures { IfOk result (λ text. cow_str_bytes text ≡ held_text workspace.now front.now (option_map file_span_of range) list.items) }
+    ensures { IfOk result (λ text. piece_bytes text ≡ held_text workspace.now front.now (option_map file_span_of range) list.items) }
 {
     let Some(range) = range else {
-        return Ok(CowStr::Borrowed(""));
+        return Ok(Piece::Code(""));
     };
-    let text = file_text(workspace, range.file_id);
     if list.is_empty() {
+        let text = file_text(workspace, range.file_id);
         let held = between(text, range.range.start, range.range.end);
-        return Ok(CowStr::Borrowed(held));
+        return Ok(Piece::Code(held));
     }
-    let made = changes_made(alloc, list)?;
-    let changes = fitted(alloc, workspace.reach(), front, text, range.range, made)?;
-    let new = replaced(alloc, text, range.range, &changes)?;
-    Ok(CowStr::Owned(new))
+    match try_whole(front, range, list) {
+        Ok(whole) => Ok(Piece::Made(whole)),
+        Err(list) => {
+            let made = rewritten(alloc, workspace, front, range, list)?;
+            Ok(Piece::Made(made))
+        }
+    }
 }
 
 /// Adds the comments that a match keeps.

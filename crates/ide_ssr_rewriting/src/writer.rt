@@ -1,11 +1,12 @@
 //! What is written for a match whose placeholders' lists can be made.
 
-ghost use Rattle.std.specs.Prelude.{◌≡◌, ◌++◌, IfOk, None, Some, if◌then◌else◌, map, option_map, string_bytes};
-ghost use Rattle.std.specs.Cow.{cow_str_bytes};
+ghost use Rattle.std.specs.Prelude.{◌≡◌, IfOk, None, Some, if◌then◌else◌, map, option_map, string_bytes};
 ghost use Rattle.ssr_base_trees.specs.Workspace.{trees};
 ghost use Rattle.ide_ssr_bindings.specs.Found.{IsMatch};
+ghost use Rattle.ide_ssr_rewriting.specs.Private.Pieces.{piece_bytes};
 ghost use Rattle.ide_ssr_rewriting.specs.Replacements.{prefix_by, template_text, text_of_match, writing};
 
+use crate::piece::Piece;
 use crate::prefixes::{has_prefix, prefix};
 use crate::printing::printed_paths;
 use crate::rendering::rendered;
@@ -13,8 +14,8 @@ use crate::replacements::push_kept;
 use ide_ssr_bindings::{Binding, FoundMatch};
 use ide_ssr_resolved_rule::ResolvedRule;
 use ssr_base_trees::{Semantics, Trees};
+use ssr_syntax_shorts::MadeText;
 use std::alloc::{AllocError, Global};
-use std::borrow::CowStr;
 
 /// What matches are written by: the rules, and a provider, which tells what names mean.
 #[derive(Drop)]
@@ -44,11 +45,17 @@ impl<'a, S: Semantics> Writer<'a, S> {
     }
 
     /// What the template of the match's rule gives with these pieces.
-    fn template_text(&self, m: &FoundMatch, pieces: &[CowStr<'_>]) -> Result<String, AllocError>
-        ensures { IfOk result (λ text. string_bytes text ≡ template_text (writing (S.meanings self.now.semantics.now) self.now.rules.now) m.now (map cow_str_bytes pieces.now)) }
+    fn template_text(
+        &self,
+        workspace: &Trees,
+        m: &FoundMatch,
+        pieces: &[Piece<'_>],
+    ) -> Result<MadeText, AllocError>
+        ensures { IfOk result (λ text. text ≡ template_text (writing (S.meanings self.now.semantics.now) self.now.rules.now) m.now (map piece_bytes pieces.now)) }
     {
         let Some(rule) = self.rules.get(m.rule()) else {
-            return Ok(String::new(self.alloc));
+            let none = String::new(self.alloc);
+            return Ok(MadeText::new(workspace.reach(), none));
         };
         let printed = printed_paths(self.alloc, self.semantics, rule, m.node())?;
         rendered(self.alloc, rule, m.bindings(), pieces, &printed)
@@ -60,13 +67,15 @@ impl<'a, S: Semantics> Writer<'a, S> {
         &self,
         workspace: &Trees,
         m: &FoundMatch,
-        pieces: &[CowStr<'_>],
-    ) -> Result<String, AllocError>
+        pieces: &[Piece<'_>],
+    ) -> Result<MadeText, AllocError>
         requires { IsMatch (trees workspace.now) m.now }
-        ensures { IfOk result (λ text. string_bytes text ≡ text_of_match workspace.now (writing (S.meanings self.now.semantics.now) self.now.rules.now) m.now (map cow_str_bytes pieces.now)) }
+        ensures { IfOk result (λ text. text ≡ text_of_match workspace.now (writing (S.meanings self.now.semantics.now) self.now.rules.now) m.now (map piece_bytes pieces.now)) }
     {
-        let mut text = self.template_text(m, pieces)?;
-        push_kept(self.alloc, workspace, m, &mut text)?;
+        let mut text = self.template_text(workspace, m, pieces)?;
+        let mut comments = String::new(self.alloc);
+        push_kept(self.alloc, workspace, m, &mut comments)?;
+        text.push_str(comments.as_str())?;
         Ok(text)
     }
 
@@ -75,11 +84,11 @@ impl<'a, S: Semantics> Writer<'a, S> {
         &self,
         workspace: &Trees,
         m: &FoundMatch,
-        pieces: &[CowStr<'_>],
+        pieces: &[Piece<'_>],
         are_all: bool,
-    ) -> Result<Option<String>, AllocError>
+    ) -> Result<Option<MadeText>, AllocError>
         requires { IsMatch (trees workspace.now) m.now }
-        ensures { IfOk result (λ text. option_map string_bytes text ≡ option_map (text_of_match workspace.now (writing (S.meanings self.now.semantics.now) self.now.rules.now) m.now) (if are_all then Some (map cow_str_bytes pieces.now) else None)) }
+        ensures { IfOk result (λ text. text ≡ option_map (text_of_match workspace.now (writing (S.meanings self.now.semantics.now) self.now.rules.now) m.now) (if are_all then Some (map piece_bytes pieces.now) else None)) }
     {
         if !are_all {
             return Ok(None);

@@ -1,5 +1,5 @@
 -- Private: in which order a list stands, and how it is gone through for its first clash.
-use Rattle.std.specs.Prelude.{◌≡◌, ◌<◌, ◌&&◌, Bool, true, if◌then◌else◌, List, [], ◌∷◌, Option, Some, None, is_some, All, AllPairs}
+use Rattle.std.specs.Prelude.{◌≡◌, ◌<◌, ◌&&◌, Bool, true, false, if◌then◌else◌, List, [], ◌∷◌, Option, Some, None, is_some, All, AllPairs}
 use Rattle.std.specs.Cmp.Lexicographic.{slice_cmp}
 use Rattle.std.specs.Ordering.{is_le, nat_cmp}
 use Rattle.ssr_base_trees.specs.Workspace.{FileSpan}
@@ -17,6 +17,12 @@ pub record AreInOrder (list : List Rewrite) : Type 0 where
 -- whether what another one clashes with, which has the same range and doesn't clash with this one, clashes with this one too
 unfoldable pub stands_for : Rewrite → Rewrite → Bool
 stands_for r s = same_range r.range s.range && is_some r.text
+
+-- a list has one rewrite alone, of this range and with a text that is known
+abbrev pub is_whole : FileSpan → List Rewrite → Bool
+is_whole range [] = false
+is_whole range (r ∷ []) = is_some r.text && same_range r.range range
+is_whole range (r ∷ s ∷ rs) = false
 
 -- the first clash of those behind one, which stands for those of its range before them
 abbrev pub first_behind : Rewrite → List Rewrite → Option Clash

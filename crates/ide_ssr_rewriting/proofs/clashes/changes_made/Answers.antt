@@ -21,8 +21,8 @@ loop-rewrite-preserved c =
     goes_on _ _ _ _ c.loop-rewrite.last c.rewrite.inside.range c.in-Some.rewrite _ _ c.loop-rewrite.invariant c.in-Some.ensures.steps.0
     (ap (λ (range : FileSpan). option_map_or (λ last. same_range range (file_span_of last)) c.loop-rewrite.last false) one ∙ (sym c.is_last.ensures ∙ c.if-is_last.false))
     one
-    (pushed c.loop-rewrite.changes.items c.push.new.self.items (c.rewrite.inside.range.range, c.unwrap_or.result) c.in_ok-push.ensures.items)
-    (made_change c.rewrite.inside.range c.rewrite.inside.text c.in-Some.rewrite c.unwrap_or.result c.new.result c.rewrite.view_is c.unwrap_or.ensures c.new.ensures.bytes)
+    (pushed c.loop-rewrite.changes.items c.push.new.self.items (c.rewrite.inside.range.range, c.spelled.result) c.in_ok-push.ensures.items)
+    (made_change c.rewrite.inside.range c.rewrite.inside.text c.in-Some.rewrite c.spelled.result c.rewrite.view_is c.spelled.ensures)
 
 pub returns : goal.returns
 returns c = ends _ _ c.loop-rewrite.last _ c.loop-rewrite.invariant

@@ -1,5 +1,5 @@
 use Rattle.std.proofs.Common.{◌≡◌, ◌≢◌, ◌&&◌, ◌++◌, ◌<◌, Bool, List, Option, ℕ, All, get_or, length, option_map, is_some, string_bytes, sym, ◌∙◌, ap, subst, arith}
-use Rattle.std.specs.Cow.{cow_str_bytes}
+use Rattle.ide_ssr_rewriting.specs.Private.Pieces.{piece_bytes}
 use Rattle.std.specs.Prelude.{AllPairs, Contains, None, Some, if◌then◌else◌}
 use Rattle.std.proofs.lemmas.List.{get_or_default}
 use Rattle.std.proofs.lemmas.Option.{slice_get-get_or}
@@ -75,7 +75,7 @@ loop-index-preserved g c =
     let held =
     held_read kept m c.workspace.result.now c.node.result c.bindings-binding-items.result.now i (option_map file_span_of c.original_range-range.result) c.workspace.ensures c.node.ensures
     c.bindings-binding-items.ensures c.original_range-range.ensures in
-    let made : c.if-branch.are_all ≡ (is_some (option_map cow_str_bytes c.in_ok-piece.piece) && c.loop-index.are_all) =
+    let made : c.if-branch.are_all ≡ (is_some (option_map piece_bytes c.in_ok-piece.piece) && c.loop-index.are_all) =
     elim c.if-branch.branch [
       | then-branch w ↦ w.are_all-is ∙ ap (λ (t : Bool). t && c.loop-index.are_all) (sym (sym c.in_ok-are_all.ensures.there ∙ w.if-branch.true))
       | else-branch w ↦ w.are_all-is ∙ (w.if-branch.false ∙ ap (λ (t : Bool). t && c.loop-index.are_all) (sym (sym c.in_ok-are_all.ensures.there ∙ w.if-branch.false)))
@@ -91,9 +91,9 @@ loop-index-preserved g c =
     record {
       texts = left-more c.args.nest.now.lists.now c.args.place i _ _ _ c.loop-index.invariant.texts c.in_ok-list.ensures.counted
           (λ j none. c.in_ok-list.ensures.others j (λ h. none (subst (λ (xs : List ℕ). Contains xs j) c.under.ensures h)));
-      written = written-more kept.workspace rules m _ i _ _ _ _ c.loop-index.invariant.written b lt at (option_map cow_str_bytes c.in_ok-piece.piece)
+      written = written-more kept.workspace rules m _ i _ _ _ _ c.loop-index.invariant.written b lt at (option_map piece_bytes c.in_ok-piece.piece)
           (c.in_ok-piece.ensures
-          ∙ ap (λ (prefix : List ℕ). option_map (λ text. prefix ++ text) (option_map cow_str_bytes c.in_ok-held.held)) prefixed
+          ∙ ap (λ (prefix : List ℕ). option_map (λ text. prefix ++ text) (option_map piece_bytes c.in_ok-held.held)) prefixed
           ∙ ap (option_map (λ text. prefix_by rules m.rule b ++ text)) (c.in_ok-held.ensures
           ∙ (ap (λ (front : List ℕ). if is_clean list then Some (held_text c.workspace-in-loop-index.result.now front (option_map file_span_of c.original_range-range.result) list) else None)
           (c.as_str.ensures.value ∙ prefixed)

@@ -1,5 +1,5 @@
 use Rattle.std.proofs.Common.{◌≡◌, ◌&&◌, ◌+◌, ◌<◌, ◌^◌, not, false, true, List, Bool, ℕ, length, map, ap, sym, ◌∙◌, arith, subst, rules, string_bytes}
-use Rattle.std.specs.Cow.{cow_str_bytes}
+use Rattle.ide_ssr_rewriting.specs.Private.Pieces.{piece_bytes}
 use Rattle.ssr_syntax_tree.specs.Places.{HasToken}
 use Rattle.ide_ssr_rewriting.specs.Rendering.{filling_of, text_for, is_piece, is_node, wrapped, plain}
 use Rattle.ide_ssr_rewriting.proofs.Tokens.{no_numbers}
@@ -9,13 +9,13 @@ use Rattle.ide_ssr_rewriting.proofs.rendering.Rendering.are_nodes.Goals as goal
 pub is_wrapped-requires : goal.is_wrapped-requires
 is_wrapped-requires c =
     bounded _ _ _ _ _ _ c.loop-token.invariant.within
-    (plain_from c.args.self.now.rule.now (filling_of c.args.self.now.bindings.now (map cow_str_bytes c.args.self.now.pieces.now) (map string_bytes c.args.self.now.printed.now)) c.args.self.now.template.now c.loop-token.token (omega arith))
+    (plain_from c.args.self.now.rule.now (filling_of c.args.self.now.bindings.now (map piece_bytes c.args.self.now.pieces.now) (map string_bytes c.args.self.now.printed.now)) c.args.self.now.template.now c.loop-token.token (omega arith))
     c.requires.length c.text_for-text.ensures
 
 pub overflow_add-at : goal.overflow_add-at
 overflow_add-at c =
     let bound : c.loop-token.at + length c.text_for-text.result.now < 2 ^ 64 = bounded _ _ _ _ _ _ c.loop-token.invariant.within
-    (plain_from c.args.self.now.rule.now (filling_of c.args.self.now.bindings.now (map cow_str_bytes c.args.self.now.pieces.now) (map string_bytes c.args.self.now.printed.now)) c.args.self.now.template.now c.loop-token.token (omega arith))
+    (plain_from c.args.self.now.rule.now (filling_of c.args.self.now.bindings.now (map piece_bytes c.args.self.now.pieces.now) (map string_bytes c.args.self.now.printed.now)) c.args.self.now.template.now c.loop-token.token (omega arith))
     c.requires.length c.text_for-text.ensures in
     search rules steps 2000000
 
@@ -28,7 +28,7 @@ loop-token-preserved c =
     let front = c.args.front in
     let at = c.loop-token.at in
     let rule = c.args.self.now.rule.now in
-    let filling = filling_of c.args.self.now.bindings.now (map cow_str_bytes c.args.self.now.pieces.now) (map string_bytes c.args.self.now.printed.now) in
+    let filling = filling_of c.args.self.now.bindings.now (map piece_bytes c.args.self.now.pieces.now) (map string_bytes c.args.self.now.printed.now) in
     let template = c.args.self.now.template.now in
     let n = c.loop-token.token in
     let has : HasToken template n = omega arith in
@@ -48,7 +48,7 @@ loop-token-preserved c =
 pub returns : goal.returns
 returns c =
     let rule = c.args.self.now.rule.now in
-    let filling = filling_of c.args.self.now.bindings.now (map cow_str_bytes c.args.self.now.pieces.now) (map string_bytes c.args.self.now.printed.now) in
+    let filling = filling_of c.args.self.now.bindings.now (map piece_bytes c.args.self.now.pieces.now) (map string_bytes c.args.self.now.printed.now) in
     let none = no_numbers c.args.self.now.template.now c.loop-token.token (omega arith) in
     λ is. c.loop-token.invariant.so_far
     (ap (wrapped c.args.tree.now c.args.front rule filling c.args.self.now.template.now c.loop-token.at) none ∙ sym (ap (plain rule filling c.args.self.now.template.now) none))

@@ -1,6 +1,5 @@
-use Rattle.std.proofs.Common.{◌≡◌, ◌<◌, Some, String, sym, ap, ◌∙◌, length, map, string_bytes}
-use Rattle.std.specs.Cow.{cow_str_bytes}
-use Rattle.std.specs.Global.{Global}
+use Rattle.std.proofs.Common.{◌≡◌, ◌<◌, List, ℕ, Some, sym, ap, ◌∙◌, length, map, string_bytes}
+use Rattle.ide_ssr_rewriting.specs.Private.Pieces.{piece_bytes}
 use Rattle.std.proofs.lemmas.Bool.{ltb-true}
 use Rattle.std.proofs.lemmas.Option.{slice_get-get_or}
 use Rattle.std.proofs.lemmas.Result.{IfOk-weaker}
@@ -14,7 +13,7 @@ returns g c =
     let rules = c.args.self.now.rules.now in
     let by = writing (g.S.Semantics.meanings c.args.self.now.semantics.now) rules in
     let m = c.args.m.now in
-    let pieces = map cow_str_bytes c.args.pieces.now in
+    let pieces = map piece_bytes c.args.pieces.now in
     let r = c.rule.result in
     let rule = c.in-Some.rule.now in
     let within : r < length rules = ltb-true r (length rules) (sym c.in-Some.ensures.lookup.0) in
@@ -23,5 +22,5 @@ returns g c =
     filled by m pieces (map string_bytes c.deref.result.now) r rule c.bindings.result.now c.node.result c.rule.ensures c.bindings.ensures c.node.ensures found
     (ap (map string_bytes) c.deref.ensures.value ∙ c.in_ok-printed.ensures) in
     IfOk-weaker c.rendered.result
-    (λ (text : String Global). string_bytes text ≡ rendered rule (filling_of c.bindings.result.now pieces (map string_bytes c.deref.result.now)))
-    (λ (text : String Global). string_bytes text ≡ template_text by m pieces) (λ text is. is ∙ same) c.rendered.ensures
+    (λ (text : List ℕ). text ≡ rendered rule (filling_of c.bindings.result.now pieces (map string_bytes c.deref.result.now)))
+    (λ (text : List ℕ). text ≡ template_text by m pieces) (λ text is. is ∙ same) c.rendered.ensures
