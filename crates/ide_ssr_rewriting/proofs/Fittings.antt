@@ -1,10 +1,11 @@
 -- Changes in a part of a text, in parentheses or not.
 use Rattle.std.proofs.Common.{◌≡◌, ℕ, ◌+◌, ◌-◌, ◌<◌, ◌≤◌, ◌==◌, ◌&&◌, Bool, true, false, List, [], ◌∷◌, ◌++◌, All, get_or, length, map, take, Option, Some, None, option_map, refl, sym, ◌∙◌, ap, subst, arith, String}
-use Rattle.std.specs.Prelude.{if◌then◌else◌, slice_get, slice_range}
+use Rattle.std.specs.Prelude.{IsSomeAnd, if◌then◌else◌, slice_get, slice_range}
 use Rattle.std.specs.Global.{Global}
-use Rattle.std.specs.Option.{option_map_or}
+use Rattle.std.specs.List.{filter_map}
+use Rattle.std.specs.Option.{option_map_or, unwrap_or}
 use Rattle.ssr_syntax_kinds.specs.declared.reach.Reach.{Reach}
-use Rattle.ssr_syntax_tree.specs.Syntax.{Syntax}
+use Rattle.ssr_syntax_tree.specs.Syntax.{Syntax, source_of}
 use Rattle.std.proofs.lemmas.Option.{same_Some}
 use Rattle.std.proofs.lemmas.List.{length-map, map-append, take_more}
 use Rattle.std.proofs.lemmas.List.Elements.{All-map}
@@ -15,29 +16,32 @@ use Rattle.ssr_base_trees.specs.Changes.{Change, ChangesInOrder, FitsText, repla
 use Rattle.ssr_base_trees.proofs.Changes.{change_at}
 use Rattle.ssr_base_trees.specs.Workspace.{Workspace, file_span_of}
 use Rattle.ssr_standing.specs.Expansions.{stands_in}
-use Rattle.ssr_standing.specs.Fitted.{fitted, in_parentheses}
-use Rattle.ssr_standing.specs.Near.{stands_by}
+use Rattle.ssr_standing.specs.Fitted.{fitted, if_fitted, in_parentheses}
+use Rattle.ssr_standing.specs.Near.{settled, stands_by}
 use Rattle.ssr_standing.specs.Parts.{FitsPart, agrees_after, expression_of, stands_between}
 use Rattle.ssr_standing.specs.declared.fitted.Judge.{Judge}
 use Rattle.ssr_standing.specs.declared.fitted.Judge.TheVariants as judges
-use Rattle.ide_ssr_rewriting.specs.Fitting.{all_fitted, fitted_alone, fitted_between, fitted_in, fitted_near, is_alone}
+use Rattle.ssr_standing.proofs.Shared.{IsInPlace, fits_told, fitted_in_place, order_all, settled_in_place}
+use Rattle.ide_ssr_rewriting.specs.Fitting.{all_fitted, as_told, fitted_alone, fitted_between, fitted_in, fitted_near, is_alone}
 use Rattle.ide_ssr_rewriting.specs.Clashes.{Rewrite}
 use Rattle.ide_ssr_rewriting.specs.Replacements.{file_text, held_text}
 use Rattle.ide_ssr_rewriting.specs.Private.Files.{FitsIn}
 
 -- ** Parentheses leave the ranges of changes.
 
-module _ (stands : Change → Bool) where
-  fits_alone : (text : List ℕ) (c : Change) → FitsText text c → FitsText text (fitted_alone stands c)
-  fits_alone text c fit = by (stands (fitted stands c)) (stands c)
-    where
-      by : (b d : Bool) → FitsText text (if b then (if d then c else in_parentheses c) else c)
-      by true true = fit
-      by true false = fit
-      by false d = fit
+module _ (tell : Change → Option Change) (in_place : (c : Change) → IsInPlace c (tell c)) where
+  all_fit_told : (text : List ℕ) (cs : List Change) → All (FitsText text) cs → All (FitsText text) (map (as_told tell) cs)
+  all_fit_told text cs all = All-map (FitsText text) (as_told tell) cs (λ k d less. fits_told tell in_place text (get_or cs k d) (all k d less))
 
-  pub all_fit_alone : (text : List ℕ) (cs : List Change) → All (FitsText text) cs → All (FitsText text) (map (fitted_alone stands) cs)
-  all_fit_alone text cs all = All-map (FitsText text) (fitted_alone stands) cs (λ k d less. fits_alone text (get_or cs k d) (all k d less))
+  fits_in_told : (w : Workspace) (file : ℕ) (c : Change) → FitsIn w file c → FitsIn w file (as_told tell c)
+  fits_in_told w file c fit = by (slice_get w.files file) fit
+    where
+      by : (o : Option Syntax) → IsSomeAnd o (λ tree. FitsText (source_of tree) c) → IsSomeAnd o (λ tree. FitsText (source_of tree) (as_told tell c))
+      by None fit = fit
+      by (Some tree) fit = fits_told tell in_place (source_of tree) c fit
+
+  all_fit_in_told : (w : Workspace) (file : ℕ) (cs : List Change) → All (FitsIn w file) cs → All (FitsIn w file) (map (as_told tell) cs)
+  all_fit_in_told w file cs all = All-map (FitsIn w file) (as_told tell) cs (λ k d less. fits_in_told w file (get_or cs k d) (all k d less))
 
 pub fits_between : (reach : Reach) (front text : List ℕ) (from to : ℕ) (cs : List Change) → All (FitsText text) cs → All (FitsText text) (fitted_between reach front text from to cs)
 unfolding fitted_between
@@ -48,7 +52,7 @@ fits_between reach front text from to cs all = by (is_alone front from to cs)
 
     or_each : (b : Bool) → All (FitsText text) (if b then cs else map (fitted_alone (λ c. stands (c ∷ []))) cs)
     or_each true = all
-    or_each false = all_fit_alone (λ c. stands (c ∷ [])) text cs all
+    or_each false = all_fit_told (if_fitted (λ c. stands (c ∷ []))) (fitted_in_place (λ c. stands (c ∷ []))) text cs all
 
     by : (b : Bool) → All (FitsText text) (if b then cs else all_fitted stands cs)
     by true = all
@@ -56,36 +60,14 @@ fits_between reach front text from to cs all = by (is_alone front from to cs)
 
 -- ** Changes of a file.
 
-module _ (stands : Change → Bool) where
-  pub order_alone : (at : ℕ) (cs : List Change) → ChangesInOrder at cs → ChangesInOrder at (map (fitted_alone stands) cs)
-  order_alone at [] order = tt
-  order_alone at (c ∷ cs) order = by (stands (fitted stands c)) (stands c) (order_alone c.end cs order.2)
-    where
-      by : (b d : Bool) → ChangesInOrder c.end (map (fitted_alone stands) cs)
-          → ChangesInOrder at ((if b then (if d then c else in_parentheses c) else c) ∷ map (fitted_alone stands) cs)
-      by true true rest = (order.0, order.1, rest)
-      by true false rest = (order.0, order.1, rest)
-      by false d rest = (order.0, order.1, rest)
-
-  fits_in_alone : (w : Workspace) (file : ℕ) (c : Change) → FitsIn w file c → FitsIn w file (fitted_alone stands c)
-  fits_in_alone w file c fit = by (stands (fitted stands c)) (stands c)
-    where
-      by : (b d : Bool) → FitsIn w file (if b then (if d then c else in_parentheses c) else c)
-      by true true = fit
-      by true false = fit
-      by false d = fit
-
-  all_fit_in_alone : (w : Workspace) (file : ℕ) (cs : List Change) → All (FitsIn w file) cs → All (FitsIn w file) (map (fitted_alone stands) cs)
-  all_fit_in_alone w file cs all = All-map (FitsIn w file) (fitted_alone stands) cs (λ k d less. fits_in_alone w file (get_or cs k d) (all k d less))
-
 -- which of the three is made
 module _ (P : List Change → Type 0) (w : Workspace) (file : ℕ) (cs : List Change) where
-  one_of : P cs → P (map (fitted_alone (stands_by w file judges.Block)) cs) → P (map (fitted_alone (stands_by w file judges.File)) cs) → P (fitted_in w file cs)
+  one_of : P cs → P (map (as_told (settled (stands_by w file))) cs) → P (map (fitted_alone (stands_by w file judges.File)) cs) → P (fitted_in w file cs)
   unfolding fitted_in
-  one_of all near alone = by (stands_in w file cs) (stands_in w file (map (fitted_alone (stands_by w file judges.Block)) cs))
+  one_of all near alone = by (stands_in w file cs) (stands_in w file (filter_map (settled (stands_by w file)) cs))
     where
       by : (b d : Bool)
-          → P (if b then cs else if d then map (fitted_alone (stands_by w file judges.Block)) cs else map (fitted_alone (stands_by w file judges.File)) cs)
+          → P (if b then cs else if d then map (as_told (settled (stands_by w file))) cs else map (fitted_alone (stands_by w file judges.File)) cs)
       by true d = all
       by false true = near
       by false false = alone
@@ -93,32 +75,38 @@ module _ (P : List Change → Type 0) (w : Workspace) (file : ℕ) (cs : List Ch
 -- the changes that are made in a file are in order
 pub order_in : (w : Workspace) (file at : ℕ) (cs : List Change) → ChangesInOrder at cs → ChangesInOrder at (fitted_in w file cs)
 order_in w file at cs order =
-    one_of (ChangesInOrder at) w file cs order (order_alone (stands_by w file judges.Block) at cs order) (order_alone (stands_by w file judges.File) at cs order)
+    let by = stands_by w file in
+    one_of (ChangesInOrder at) w file cs order (order_all (settled by) (settled_in_place by) at cs order)
+    (order_all (if_fitted (by judges.File)) (fitted_in_place (by judges.File)) at cs order)
 
 -- and fit it
 pub fits_in_file : (w : Workspace) (file : ℕ) (cs : List Change) → All (FitsIn w file) cs → All (FitsIn w file) (fitted_in w file cs)
 fits_in_file w file cs all =
-    one_of (All (FitsIn w file)) w file cs all (all_fit_in_alone (stands_by w file judges.Block) w file cs all)
-    (all_fit_in_alone (stands_by w file judges.File) w file cs all)
+    let by = stands_by w file in
+    one_of (All (FitsIn w file)) w file cs all (all_fit_in_told (settled by) (settled_in_place by) w file cs all)
+    (all_fit_in_told (if_fitted (by judges.File)) (fitted_in_place (by judges.File)) w file cs all)
 
--- they stay as they are, or are made as their blocks tell, or each as it stands alone
+-- they stay as they are, or are made as they are settled, or each as it stands alone
 module _ (stand : List Change → Bool) (by : Judge → Change → Bool) (cs : List Change) where
+  abbrev standing : List Change
+  standing = filter_map (settled by) cs
+
   abbrev near : List Change
-  near = map (fitted_alone (by judges.Block)) cs
+  near = map (as_told (settled by)) cs
 
   abbrev alone : List Change
   alone = map (fitted_alone (by judges.File)) cs
 
   pub all_stay : stand cs ≡ true → cs ≡ fitted_near stand by cs
-  all_stay is = sym (ap (λ b. if b then cs else if stand near then near else alone) is)
+  all_stay is = sym (ap (λ b. if b then cs else if stand standing then near else alone) is)
 
-  pub as_blocks_tell : stand cs ≡ false → stand near ≡ true → near ≡ fitted_near stand by cs
-  as_blocks_tell all is =
-      sym (ap (λ b. if b then cs else if stand near then near else alone) all ∙ ap (λ b. if b then near else alone) is)
+  pub as_settled : stand cs ≡ false → stand standing ≡ true → near ≡ fitted_near stand by cs
+  as_settled all is =
+      sym (ap (λ b. if b then cs else if stand standing then near else alone) all ∙ ap (λ b. if b then near else alone) is)
 
-  pub each_alone : stand cs ≡ false → stand near ≡ false → alone ≡ fitted_near stand by cs
+  pub each_alone : stand cs ≡ false → stand standing ≡ false → alone ≡ fitted_near stand by cs
   each_alone all is =
-      sym (ap (λ b. if b then cs else if stand near then near else alone) all ∙ ap (λ b. if b then near else alone) is)
+      sym (ap (λ b. if b then cs else if stand standing then near else alone) all ∙ ap (λ b. if b then near else alone) is)
 
 -- ** Changes of a range.
 
@@ -177,7 +165,7 @@ each_fitted reach front text from to cs whole fall =
 none_stand : (stands : Change → Bool) (cs : List Change) → ((c : Change) → stands c ≡ false) → map (fitted_alone stands) cs ≡ cs
 none_stand stands [] none = refl
 none_stand stands (c ∷ cs) none =
-    ap (λ b. (if b then fitted stands c else c) ∷ map (fitted_alone stands) cs) (none (fitted stands c))
+    ap (λ b. unwrap_or (if b then Some (fitted stands c) else None) c ∷ map (fitted_alone stands) cs) (none (fitted stands c))
     ∙ ap (λ (cs : List Change). c ∷ cs) (none_stand stands cs none)
 
 pub unread_fitted : (reach : Reach) (front text : List ℕ) (from to : ℕ) (cs : List Change) → is_alone front from to cs ≡ false → expression_of reach front (slice_range text from to) ≡ None
@@ -193,17 +181,21 @@ unread_fitted reach front text from to cs whole unread =
 pub stays : (stands : Change → Bool) (c : Change) → stands c ≡ true → fitted_alone stands c ≡ c
 stays stands c is =
     let same : fitted stands c ≡ c = ap (λ b. if b then c else in_parentheses c) is in
-    ap (λ (d : Change). if stands d then d else c) same ∙ ap (λ b. if b then c else c) is
+    ap (λ (d : Change). unwrap_or (if stands d then Some d else None) c) same ∙ ap (λ b. unwrap_or (if b then Some c else None) c) is
 
 module _ (stands : Change → Bool) (c : Change) (fall : stands c ≡ false) where
   in_them : fitted stands c ≡ in_parentheses c
   in_them = ap (λ b. if b then c else in_parentheses c) fall
 
   pub closed : stands (in_parentheses c) ≡ true → fitted_alone stands c ≡ in_parentheses c
-  closed is = ap (λ (d : Change). if stands d then d else c) in_them ∙ ap (λ b. if b then in_parentheses c else c) is
+  closed is =
+      ap (λ (d : Change). unwrap_or (if stands d then Some d else None) c) in_them
+      ∙ ap (λ b. unwrap_or (if b then Some (in_parentheses c) else None) c) is
 
   pub stays_open : stands (in_parentheses c) ≡ false → fitted_alone stands c ≡ c
-  stays_open is = ap (λ (d : Change). if stands d then d else c) in_them ∙ ap (λ b. if b then in_parentheses c else c) is
+  stays_open is =
+      ap (λ (d : Change). unwrap_or (if stands d then Some d else None) c) in_them
+      ∙ ap (λ b. unwrap_or (if b then Some (in_parentheses c) else None) c) is
 
 -- ** Whether nothing stands around changes.
 

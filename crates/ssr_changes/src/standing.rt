@@ -1,11 +1,14 @@
 //! Which changes of a file are made: those with which it is read and groups as it did.
 ghost use Rattle.std.specs.Prelude.{◌≡◌, All, IfOk, map};
+ghost use Rattle.std.specs.List.{filter_map};
 ghost use Rattle.ssr_syntax_tree.specs.Syntax.{source_of};
 ghost use Rattle.ssr_base_trees.specs.Changes.{FitsText};
 ghost use Rattle.ssr_set_aside.specs.Sparing.{bounds, bounds_of};
 ghost use Rattle.ssr_standing.specs.Expansions.{stands_in};
-ghost use Rattle.ssr_standing.specs.Near.{stands_by};
-ghost use Rattle.ssr_changes.specs.Standing.{alone, falling, not_alone, standing};
+ghost use Rattle.ssr_standing.specs.Fitted.{if_fitted};
+ghost use Rattle.ssr_standing.specs.Near.{settled, stands_by};
+ghost use Rattle.ssr_standing.specs.declared.fitted.Judge.TheVariants as judges;
+ghost use Rattle.ssr_changes.specs.Standing.{falling, standing, untold};
 
 use ssr_base::TextEdit;
 use ssr_standing::{Judge, SearchedFile};
@@ -22,8 +25,8 @@ pub(crate) struct Tried {
 }
 
 /// Which changes of a searched text are made. Where it isn't read as before with all of them, each is tried by the nearest block around
-/// it, as it is and then in parentheses, and those that stand are tried together. If they don't stand together, each is tried alone in
-/// the whole text in place of that.
+/// it, as it is and then in parentheses; where it doesn't stand by that, alone in the whole text. Those that stand are tried together. If
+/// they don't stand together, each is tried alone in the whole text in place of that.
 pub(crate) fn standing(
     alloc: Global,
     file: &SearchedFile<'_>,
@@ -39,11 +42,11 @@ pub(crate) fn standing(
             unread: Vec::new(alloc),
         });
     }
-    let near = standing_alone(alloc, file, Judge::Block, &edit)?;
+    let near = settled(alloc, file, &edit)?;
     if file.stands(alloc, &near.edit)? {
         return Ok(near);
     }
-    let alone = standing_alone(alloc, file, Judge::File, &edit)?;
+    let alone = standing_alone(alloc, file, &edit)?;
     if file.stands(alloc, &alone.edit)? {
         return Ok(alone);
     }
@@ -53,21 +56,40 @@ pub(crate) fn standing(
     })
 }
 
-/// The changes of an edit that stand alone by what they are judged by, and the others.
-fn standing_alone(
-    alloc: Global,
-    file: &SearchedFile<'_>,
-    judge: Judge,
-    edit: &TextEdit,
-) -> Result<Tried, AllocError>
+/// The changes of an edit that are settled, and the others.
+fn settled(alloc: Global, file: &SearchedFile<'_>, edit: &TextEdit) -> Result<Tried, AllocError>
     requires { All (FitsText (source_of file.now.tree.now)) edit.now }
-    ensures made { IfOk result (λ answer. answer.edit ≡ alone (stands_by file.now.trees.now file.now.number judge) edit.now) }
-    ensures unread { IfOk result (λ answer. map bounds answer.unread.items ≡ map bounds_of (not_alone (stands_by file.now.trees.now file.now.number judge) edit.now)) }
+    ensures made { IfOk result (λ answer. answer.edit ≡ filter_map (settled (stands_by file.now.trees.now file.now.number)) edit.now) }
+    ensures unread { IfOk result (λ answer. map bounds answer.unread.items ≡ map bounds_of (untold (settled (stands_by file.now.trees.now file.now.number)) edit.now)) }
 {
     let mut made = Vec::new(alloc);
     let mut unread = Vec::new(alloc);
     for (range, text) in edit.iter().as_slice() {
-        match file.fitted(alloc, judge, *range, text.as_str())? {
+        match file.settled(alloc, *range, text.as_str())? {
+            Some(text) => made.push((*range, text))?,
+            None => unread.push(*range)?,
+        }
+    }
+    Ok(Tried {
+        edit: TextEdit::new(made),
+        unread,
+    })
+}
+
+/// The changes of an edit that stand alone in the whole text, and the others.
+fn standing_alone(
+    alloc: Global,
+    file: &SearchedFile<'_>,
+    edit: &TextEdit,
+) -> Result<Tried, AllocError>
+    requires { All (FitsText (source_of file.now.tree.now)) edit.now }
+    ensures made { IfOk result (λ answer. answer.edit ≡ filter_map (if_fitted (stands_by file.now.trees.now file.now.number judges.File)) edit.now) }
+    ensures unread { IfOk result (λ answer. map bounds answer.unread.items ≡ map bounds_of (untold (if_fitted (stands_by file.now.trees.now file.now.number judges.File)) edit.now)) }
+{
+    let mut made = Vec::new(alloc);
+    let mut unread = Vec::new(alloc);
+    for (range, text) in edit.iter().as_slice() {
+        match file.fitted(alloc, Judge::File, *range, text.as_str())? {
             Some(text) => made.push((*range, text))?,
             None => unread.push(*range)?,
         }

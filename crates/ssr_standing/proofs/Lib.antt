@@ -14,4 +14,5 @@ mod Calls
 mod Nearest
 mod Below
 mod CodeEnds
+mod Settled
 pub mod Shared

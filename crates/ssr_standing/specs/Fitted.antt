@@ -1,5 +1,5 @@
 -- A change that stands by some test, in parentheses where it stands only so.
-use Rattle.std.specs.Prelude.{◌≡◌, Bool, false, true, if◌then◌else◌, ℕ, List, Option, None, Some}
+use Rattle.std.specs.Prelude.{Bool, if◌then◌else◌, ℕ, List, Option, None, Some}
 use Rattle.ssr_syntax_kinds.specs.declared.range.TextRange.{TextRange}
 use Rattle.ssr_base_trees.specs.Changes.{Change}
 use Rattle.ssr_standing.specs.Code.{parenthesized}
@@ -16,7 +16,6 @@ in_parentheses c = record { start = c.start; end = c.end; text = parenthesized c
 abbrev pub fitted : (Change → Bool) → Change → Change
 fitted stands c = if stands c then c else in_parentheses c
 
--- the text of a change as it stands; none where it doesn't
-abbrev pub IsFitted : (Change → Bool) → Change → Option (List ℕ) → Type 0
-IsFitted stands c None = stands (fitted stands c) ≡ false
-IsFitted stands c (Some text) = (fitted stands c ≡ record { start = c.start; end = c.end; text = text }) × (stands (fitted stands c) ≡ true)
+-- a change as it stands, if it does: as it is, or else in parentheses
+abbrev pub if_fitted : (Change → Bool) → Change → Option Change
+if_fitted stands c = if stands (fitted stands c) then Some (fitted stands c) else None

@@ -1,6 +1,6 @@
 -- Whether a change stands by the nearest block around it.
 use Rattle.std.specs.Prelude.{ℕ, ◌&&◌, Bool, false, if◌then◌else◌, List, [], ◌∷◌, Option, Some, None, length, slice_get}
-use Rattle.std.specs.Option.{option_map_or}
+use Rattle.std.specs.Option.{option_map_or, option_or}
 use Rattle.ssr_syntax_kinds.specs.declared.kinds.SyntaxKind.TheVariants as k
 use Rattle.ssr_syntax_kinds.specs.declared.reach.Reach.{Reach}
 use Rattle.ssr_syntax_kinds.specs.Kinds.{same_kind}
@@ -10,6 +10,7 @@ use Rattle.ssr_base_trees.specs.Changes.{Change}
 use Rattle.ssr_base_trees.specs.Origins.{Span}
 use Rattle.ssr_base_trees.specs.Workspace.{Workspace}
 use Rattle.ssr_standing.specs.Expansions.{first_stand, is_inside, stands_in}
+use Rattle.ssr_standing.specs.Fitted.{if_fitted}
 use Rattle.ssr_standing.specs.Parts.{stands_between}
 use Rattle.ssr_standing.specs.Ranges.{old_place}
 use Rattle.ssr_standing.specs.Standing.{stands_of}
@@ -58,3 +59,8 @@ stands_near w n c =
 abbrev pub stands_by : Workspace → ℕ → Judge → Change → Bool
 stands_by w n judges.Block c = stands_near w n c
 stands_by w n judges.File c = stands_in w n (c ∷ [])
+
+-- A change as its nearest block tells; where it doesn't stand by that, as it stands alone in the whole file. None where it stands by
+-- neither.
+abbrev pub settled : (Judge → Change → Bool) → Change → Option Change
+settled stands_by c = option_or (if_fitted (stands_by judges.Block) c) (if_fitted (stands_by judges.File) c)

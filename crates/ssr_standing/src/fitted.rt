@@ -3,8 +3,8 @@ ghost use Rattle.std.specs.Prelude.{◌≡◌, [], ◌∷◌, IfOk, string_bytes
 ghost use Rattle.std.specs.Option.{option_map};
 ghost use Rattle.ssr_syntax_tree.specs.Syntax.{source_of};
 ghost use Rattle.ssr_base_trees.specs.Changes.{FitsText};
-ghost use Rattle.ssr_standing.specs.Fitted.{IsFitted, change_with};
-ghost use Rattle.ssr_standing.specs.Near.{stands_by};
+ghost use Rattle.ssr_standing.specs.Fitted.{change_with, if_fitted};
+ghost use Rattle.ssr_standing.specs.Near.{settled, stands_by};
 
 use crate::code::in_parentheses;
 use crate::expansions::SearchedFile;
@@ -57,7 +57,7 @@ impl<'a> SearchedFile<'a> {
         text: &str,
     ) -> Result<Option<String>, AllocError>
         requires { FitsText (source_of self.now.tree.now) (change_with range text.now) }
-        ensures { IfOk result (λ fitted. IsFitted (stands_by self.now.trees.now self.now.number judge) (change_with range text.now) (option_map string_bytes fitted)) }
+        ensures { IfOk result (λ fitted. option_map (change_with range) (option_map string_bytes fitted) ≡ if_fitted (stands_by self.now.trees.now self.now.number judge) (change_with range text.now)) }
     {
         if self.stands_by(alloc, judge, range, text)? {
             return Ok(Some(String::from_str(alloc, text)?));
@@ -67,5 +67,21 @@ impl<'a> SearchedFile<'a> {
             return Ok(Some(wrapped));
         }
         Ok(None)
+    }
+
+    /// The text of a change as its nearest block tells. Where it doesn't stand by that, as it stands alone in the whole file, if it does.
+    pub fn settled(
+        &self,
+        alloc: Global,
+        range: TextRange,
+        text: &str,
+    ) -> Result<Option<String>, AllocError>
+        requires { FitsText (source_of self.now.tree.now) (change_with range text.now) }
+        ensures { IfOk result (λ answer. option_map (change_with range) (option_map string_bytes answer) ≡ settled (stands_by self.now.trees.now self.now.number) (change_with range text.now)) }
+    {
+        match self.fitted(alloc, Judge::Block, range, text)? {
+            Some(new) => Ok(Some(new)),
+            None => self.fitted(alloc, Judge::File, range, text),
+        }
     }
 }

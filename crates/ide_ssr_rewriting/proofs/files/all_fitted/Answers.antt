@@ -2,16 +2,17 @@ use Rattle.std.proofs.Common.{All, sym, ◌∙◌, ap, subst}
 use Rattle.ssr_syntax_tree.specs.Syntax.{source_of}
 use Rattle.ssr_base_trees.specs.Changes.{FitsText}
 use Rattle.ssr_standing.specs.Expansions.{stands_in}
-use Rattle.ssr_standing.specs.Near.{stands_by}
-use Rattle.ssr_standing.specs.declared.fitted.Judge.TheVariants as judges
-use Rattle.ide_ssr_rewriting.proofs.Fittings.{all_fit_alone, all_stay, as_blocks_tell, each_alone}
+use Rattle.ssr_standing.specs.Near.{settled, stands_by}
+use Rattle.ssr_standing.proofs.Shared.{fit_told, settled_in_place}
+use Rattle.ide_ssr_rewriting.proofs.Fittings.{all_stay, as_settled, each_alone}
 use Rattle.ide_ssr_rewriting.proofs.files.all_fitted.Goals as goal
 
 pub stands-requires-2 : goal.stands-requires-2
 stands-requires-2 c =
     let source = source_of c.args.file.now.tree.now in
-    subst (All (FitsText source)) (sym c.in_ok-near.ensures)
-    (all_fit_alone (stands_by c.args.file.now.trees.now c.args.file.now.number judges.Block) source c.args.edit c.requires)
+    let by = stands_by c.args.file.now.trees.now c.args.file.now.number in
+    subst (All (FitsText source)) (sym c.in_ok-near.ensures.standing)
+    (fit_told (settled by) (settled_in_place by) source c.args.edit c.requires)
 
 pub returns-then-branch : goal.returns-then-branch
 returns-then-branch c =
@@ -23,9 +24,9 @@ pub returns-then-branch-2 : goal.returns-then-branch-2
 returns-then-branch-2 c =
     let w = c.args.file.now.trees.now in
     let n = c.args.file.now.number in
-    c.in_ok-near.ensures
-    ∙ as_blocks_tell (stands_in w n) (stands_by w n) c.args.edit (sym c.in_ok-stands.ensures ∙ c.if-branch.false)
-    (ap (stands_in w n) (sym c.in_ok-near.ensures) ∙ sym c.in_ok-stands-2.ensures ∙ c.if-branch-2.true)
+    c.in_ok-near.ensures.all
+    ∙ as_settled (stands_in w n) (stands_by w n) c.args.edit (sym c.in_ok-stands.ensures ∙ c.if-branch.false)
+    (ap (stands_in w n) (sym c.in_ok-near.ensures.standing) ∙ sym c.in_ok-stands-2.ensures ∙ c.if-branch-2.true)
 
 pub returns : goal.returns
 returns c =
@@ -33,4 +34,4 @@ returns c =
     let n = c.args.file.now.number in
     c.in_ok-alone.ensures
     ∙ each_alone (stands_in w n) (stands_by w n) c.args.edit (sym c.in_ok-stands.ensures ∙ c.if-branch.false)
-    (ap (stands_in w n) (sym c.in_ok-near.ensures) ∙ sym c.in_ok-stands-2.ensures ∙ c.if-branch-2.false)
+    (ap (stands_in w n) (sym c.in_ok-near.ensures.standing) ∙ sym c.in_ok-stands-2.ensures ∙ c.if-branch-2.false)

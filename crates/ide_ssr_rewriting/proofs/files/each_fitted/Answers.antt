@@ -5,9 +5,11 @@ use Rattle.ssr_base_trees.specs.Applied.{change_of, changes_of}
 use Rattle.ssr_base_trees.specs.Changes.{Change, ChangesInOrder}
 use Rattle.ssr_base_trees.proofs.Changes.{fits_here, shown}
 use Rattle.ssr_standing.specs.Near.{stands_by}
-use Rattle.ssr_standing.specs.Fitted.{change_with}
+use Rattle.ssr_standing.specs.declared.fitted.Judge.TheVariants as judges
+use Rattle.ssr_standing.proofs.Shared.{fitted_in_place, order_all}
+use Rattle.ssr_standing.specs.Fitted.{change_with, if_fitted}
 use Rattle.ide_ssr_rewriting.specs.Fitting.{fitted_alone}
-use Rattle.ide_ssr_rewriting.proofs.Fittings.{one_fitted, order_alone}
+use Rattle.ide_ssr_rewriting.proofs.Fittings.{one_fitted}
 use Rattle.ide_ssr_rewriting.proofs.files.each_fitted.Goals as goal
 
 pub fitted-requires : goal.fitted-requires
@@ -18,7 +20,7 @@ fitted-requires c =
 pub loop-range-preserved : goal.loop-range-preserved
 loop-range-preserved c =
     let item = c.loop-range-item.result in
-    let fit : Change → Change = fitted_alone (stands_by c.args.file.now.trees.now c.args.file.now.number c.args.judge) in
+    let fit : Change → Change = fitted_alone (stands_by c.args.file.now.trees.now c.args.file.now.number judges.File) in
     one_fitted fit c.as_slice-range-items.result.now c.loop-range.range-index item c.in_ok-fit.fit c.loop-range.changes.items c.push.new.self.items
     c.loop-range-test.true c.loop-range-item.is c.in_ok-push.ensures.items
     (c.in_ok-fit.ensures ∙ ap (λ (text : List ℕ). fit (change_with item.0 text)) c.as_str.ensures.value) c.loop-range.invariant
@@ -27,9 +29,9 @@ loop-range-preserved c =
 made : goal.new-requires
 made c =
     let pairs = c.as_slice-range-items.result.now in
-    let stands = stands_by c.args.file.now.trees.now c.args.file.now.number c.args.judge in
+    let stands = stands_by c.args.file.now.trees.now c.args.file.now.number judges.File in
     subst (ChangesInOrder 0) (sym (c.loop-range.invariant ∙ ap (map (fitted_alone stands)) (take_all c.loop-range.range-index (changes_of pairs) (omega (arith, length-map pairs change_of)))))
-    (order_alone stands 0 (changes_of pairs) (subst (ChangesInOrder 0) (sym (shown c.as_slice-range-items.ensures.value c.iter.ensures.items)) c.iter.ensures.order))
+    (order_all (if_fitted stands) (fitted_in_place stands) 0 (changes_of pairs) (subst (ChangesInOrder 0) (sym (shown c.as_slice-range-items.ensures.value c.iter.ensures.items)) c.iter.ensures.order))
 
 pub new-requires : goal.new-requires
 new-requires c = made c
@@ -37,7 +39,7 @@ new-requires c = made c
 pub returns : goal.returns
 returns c =
     let pairs = c.as_slice-range-items.result.now in
-    let stands = stands_by c.args.file.now.trees.now c.args.file.now.number c.args.judge in
+    let stands = stands_by c.args.file.now.trees.now c.args.file.now.number judges.File in
     c.new.ensures ∙ c.loop-range.invariant
     ∙ ap (map (fitted_alone stands)) (take_all c.loop-range.range-index (changes_of pairs) (omega (arith, length-map pairs change_of))
     ∙ shown c.as_slice-range-items.ensures.value c.iter.ensures.items)

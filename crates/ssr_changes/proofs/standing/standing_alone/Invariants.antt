@@ -1,12 +1,15 @@
 use Rattle.std.proofs.Common.{◌≡◌, map, take}
+use Rattle.std.specs.List.{filter_map}
 use Rattle.ssr_base_trees.specs.Applied.{changes_of}
 use Rattle.ssr_set_aside.specs.Sparing.{bounds, bounds_of}
+use Rattle.ssr_standing.specs.Fitted.{if_fitted}
 use Rattle.ssr_standing.specs.Near.{stands_by}
-use Rattle.ssr_changes.specs.Standing.{alone, not_alone}
+use Rattle.ssr_standing.specs.declared.fitted.Judge.TheVariants as judges
+use Rattle.ssr_changes.specs.Standing.{untold}
 use Rattle.ssr_changes.proofs.standing.standing_alone.Given as goal
 
 abbrev pub invariant-loop-range : goal.invariant-loop-range
 invariant-loop-range l = record {
-  made : changes_of l.made.items ≡ alone (stands_by l.file.trees.now l.file.number l.judge) (take l.range-index (changes_of l.range-items));
-  unread : map bounds l.unread.items ≡ map bounds_of (not_alone (stands_by l.file.trees.now l.file.number l.judge) (take l.range-index (changes_of l.range-items)));
+  made : changes_of l.made.items ≡ filter_map (if_fitted (stands_by l.file.trees.now l.file.number judges.File)) (take l.range-index (changes_of l.range-items));
+  unread : map bounds l.unread.items ≡ map bounds_of (untold (if_fitted (stands_by l.file.trees.now l.file.number judges.File)) (take l.range-index (changes_of l.range-items)));
 }
