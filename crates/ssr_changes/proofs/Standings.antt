@@ -15,8 +15,11 @@ use Rattle.ssr_standing.specs.Fitted.{change_with, if_fitted}
 use Rattle.ssr_standing.specs.Near.{settled}
 use Rattle.ssr_standing.specs.declared.fitted.Judge.{Judge}
 use Rattle.ssr_standing.specs.declared.fitted.Judge.TheVariants as judges
-use Rattle.ssr_standing.proofs.Shared.{fit_told, fitted_in_place, settled_in_place, text_behind, told_more, untold_more}
+use Rattle.ssr_standing.proofs.Shared.{fit_told, fitted_in_place, order_told, settled_in_place, text_behind, told_more, untold_more}
+use Rattle.ssr_changes.specs.Private.Standing.{tell}
 use Rattle.ssr_changes.specs.Standing.{falling, standing, untold}
+use Rattle.ssr_changes.specs.declared.standing.Trial.{Trial}
+use Rattle.ssr_changes.specs.declared.standing.Trial.TheVariants as trials
 
 -- ** Order.
 
@@ -25,6 +28,12 @@ pub in_order_at : (cs : List Change) (at i : ℕ) (d : Change) → ChangesInOrde
 in_order_at [] at i d order less its = absurd (omega arith)
 in_order_at (c ∷ cs) at zero d order less its = subst (λ (c : Change). c.start ≤ c.end) its order.1
 in_order_at (c ∷ cs) at (suc i) d order less its = in_order_at cs c.end i d order.2 (omega arith) its
+
+-- what is tried stays in order
+pub order_tried : (trial : Trial) (by : Judge → Change → Bool) (at : ℕ) (cs : List Change) → ChangesInOrder at cs
+    → ChangesInOrder at (filter_map (tell trial by) cs)
+order_tried trials.Settled by at cs order = order_told (settled by) (settled_in_place by) at cs order
+order_tried trials.Alone by at cs order = order_told (if_fitted (by judges.File)) (fitted_in_place (by judges.File)) at cs order
 
 -- ** One change more.
 

@@ -3,3 +3,4 @@ pub mod Building
 pub mod Changing
 pub mod Finding
 pub mod Planning
+pub mod Standing

@@ -1,13 +1,14 @@
 //! Which changes of a file are made: those with which it is read and groups as it did.
-ghost use Rattle.std.specs.Prelude.{◌≡◌, All, IfOk, map};
+ghost use Rattle.std.specs.Prelude.{◌≡◌, All, IfOk, map, string_bytes};
 ghost use Rattle.std.specs.List.{filter_map};
+ghost use Rattle.std.specs.Option.{option_map};
 ghost use Rattle.ssr_syntax_tree.specs.Syntax.{source_of};
 ghost use Rattle.ssr_base_trees.specs.Changes.{FitsText};
 ghost use Rattle.ssr_set_aside.specs.Sparing.{bounds, bounds_of};
 ghost use Rattle.ssr_standing.specs.Expansions.{stands_in};
-ghost use Rattle.ssr_standing.specs.Fitted.{if_fitted};
-ghost use Rattle.ssr_standing.specs.Near.{settled, stands_by};
-ghost use Rattle.ssr_standing.specs.declared.fitted.Judge.TheVariants as judges;
+ghost use Rattle.ssr_standing.specs.Fitted.{change_with};
+ghost use Rattle.ssr_standing.specs.Near.{stands_by};
+ghost use Rattle.ssr_changes.specs.Private.Standing.{tell};
 ghost use Rattle.ssr_changes.specs.Standing.{falling, standing, untold};
 
 use ssr_base::TextEdit;
@@ -42,11 +43,11 @@ pub(crate) fn standing(
             unread: Vec::new(alloc),
         });
     }
-    let near = settled(alloc, file, &edit)?;
+    let near = each_tried(alloc, file, Trial::Settled, &edit)?;
     if file.stands(alloc, &near.edit)? {
         return Ok(near);
     }
-    let alone = standing_alone(alloc, file, &edit)?;
+    let alone = each_tried(alloc, file, Trial::Alone, &edit)?;
     if file.stands(alloc, &alone.edit)? {
         return Ok(alone);
     }
@@ -56,40 +57,47 @@ pub(crate) fn standing(
     })
 }
 
-/// The changes of an edit that are settled, and the others.
-fn settled(alloc: Global, file: &SearchedFile<'_>, edit: &TextEdit) -> Result<Tried, AllocError>
-    requires { All (FitsText (source_of file.now.tree.now)) edit.now }
-    ensures made { IfOk result (λ answer. answer.edit ≡ filter_map (settled (stands_by file.now.trees.now file.now.number)) edit.now) }
-    ensures unread { IfOk result (λ answer. map bounds answer.unread.items ≡ map bounds_of (untold (settled (stands_by file.now.trees.now file.now.number)) edit.now)) }
-{
-    let mut made = Vec::new(alloc);
-    let mut unread = Vec::new(alloc);
-    for (range, text) in edit.iter().as_slice() {
-        match file.settled(alloc, *range, text.as_str())? {
-            Some(text) => made.push((*range, text))?,
-            None => unread.push(*range)?,
-        }
-    }
-    Ok(Tried {
-        edit: TextEdit::new(made),
-        unread,
-    })
+/// How a change is tried without the others.
+#[derive(Clone, Copy)]
+enum Trial {
+    /// By the nearest block around it; where it doesn't stand by that, alone in the whole text.
+    Settled,
+    /// Alone in the whole text.
+    Alone,
 }
 
-/// The changes of an edit that stand alone in the whole text, and the others.
-fn standing_alone(
+/// The text of a change as it stands when it is tried so, if it does.
+fn text_tried(
     alloc: Global,
     file: &SearchedFile<'_>,
+    trial: Trial,
+    range: TextRange,
+    text: &str,
+) -> Result<Option<String>, AllocError>
+    requires { FitsText (source_of file.now.tree.now) (change_with range text.now) }
+    ensures { IfOk result (λ answer. option_map (change_with range) (option_map string_bytes answer) ≡ tell trial (stands_by file.now.trees.now file.now.number) (change_with range text.now)) }
+{
+    match trial {
+        Trial::Settled => file.settled(alloc, range, text),
+        Trial::Alone => file.fitted(alloc, Judge::File, range, text),
+    }
+}
+
+/// The changes of an edit that stand when each is tried so, and the others.
+fn each_tried(
+    alloc: Global,
+    file: &SearchedFile<'_>,
+    trial: Trial,
     edit: &TextEdit,
 ) -> Result<Tried, AllocError>
     requires { All (FitsText (source_of file.now.tree.now)) edit.now }
-    ensures made { IfOk result (λ answer. answer.edit ≡ filter_map (if_fitted (stands_by file.now.trees.now file.now.number judges.File)) edit.now) }
-    ensures unread { IfOk result (λ answer. map bounds answer.unread.items ≡ map bounds_of (untold (if_fitted (stands_by file.now.trees.now file.now.number judges.File)) edit.now)) }
+    ensures made { IfOk result (λ answer. answer.edit ≡ filter_map (tell trial (stands_by file.now.trees.now file.now.number)) edit.now) }
+    ensures unread { IfOk result (λ answer. map bounds answer.unread.items ≡ map bounds_of (untold (tell trial (stands_by file.now.trees.now file.now.number)) edit.now)) }
 {
     let mut made = Vec::new(alloc);
     let mut unread = Vec::new(alloc);
     for (range, text) in edit.iter().as_slice() {
-        match file.fitted(alloc, Judge::File, *range, text.as_str())? {
+        match text_tried(alloc, file, trial, *range, text.as_str())? {
             Some(text) => made.push((*range, text))?,
             None => unread.push(*range)?,
         }
